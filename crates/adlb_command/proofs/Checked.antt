@@ -14,9 +14,9 @@ use Rattle.ledger_file.specs.Lines.{IsFirstBad, IsText}
 use Rattle.adlb_command.specs.Ends.{fault_at_check, fault_told}
 use Rattle.adlb_command.specs.Top.{EndsAsChecked, seen_in}
 use Rattle.adlb_command.specs.declared.ends.AnyKept.{AnyKept}
-use Rattle.adlb_command.specs.declared.ends.RunFault.{RunFault}
-use Rattle.adlb_command.specs.declared.ends.RunFault.TheVariants.{Input, Memory, TooLarge}
-use Rattle.adlb_command.specs.declared.ends.LineWhy.TheVariants.{Entry}
+use Rattle.adlb_command.specs.declared.faults.RunFault.{RunFault}
+use Rattle.adlb_command.specs.declared.faults.RunFault.TheVariants.{Input, Memory, TooLarge}
+use Rattle.adlb_command.specs.declared.faults.LineWhy.TheVariants.{Entry}
 
 -- what was told without a fault is told, or memory failed
 pub fine_or : {X : Type 0} (P : X → Type 0) (told : Result X CheckFault) →

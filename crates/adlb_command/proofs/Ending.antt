@@ -1,10 +1,12 @@
 -- How the top call ends, by what the words say.
-use Rattle.std.proofs.Common.{◌≡◌, ◌⊎◌, ℕ, Option, Some, None, Result, Ok, Err, refl, sym, subst, inl, inr}
+use Rattle.std.proofs.Common.{◌≡◌, ◌⊎◌, ℕ, false, Option, Some, None, Result, Ok, Err, refl, sym, subst, inl, inr}
+use Rattle.std.specs.Prelude.{option_map}
 use Rattle.adlb_unit.specs.declared.configs.Config.{Config}
 use Rattle.command_words.specs.declared.commands.Command.{Command}
-use Rattle.command_words.specs.declared.commands.Command.TheVariants.{Solve, Check, Make, Drill, Draw}
+use Rattle.command_words.specs.declared.commands.Command.TheVariants.{Solve, Check, Make, Drill, Tour, Draw}
 use Rattle.command_words.specs.declared.commands.RunOptions.{RunOptions}
 use Rattle.command_words.specs.declared.commands.SolveWords.{SolveWords}
+use Rattle.command_words.specs.declared.commands.TourWords.{TourWords}
 use Rattle.command_words.specs.declared.commands.WordsFault.{WordsFault}
 use Rattle.command_words.specs.declared.commands.WordsFault.TheVariants as words
 use Rattle.job_report.specs.declared.outcomes.Outcome.{Outcome}
@@ -24,13 +26,19 @@ use Rattle.solve_command.proofs.Starting.{drilled_early, solved_early}
 use Rattle.solve_command.specs.Ends.{Drills, Solves}
 use Rattle.solve_command.specs.Told.{behind}
 use Rattle.solve_command.specs.declared.extras.Extras.{Extras}
+use Rattle.tour_app.specs.declared.outcomes.TourOutcome.{TourOutcome}
+use Rattle.tour_command.proofs.Starting.{toured_early}
+use Rattle.tour_command.specs.Ends.{FindsTour}
+use Rattle.tour_search.specs.declared.faults.CitiesWhy.{CitiesWhy}
 use Rattle.adlb_command.proofs.Made.{none_taken}
-use Rattle.adlb_command.specs.Ends.{fault_ended, fault_made, fault_said, fault_told, kept_ended}
-use Rattle.adlb_command.specs.Top.{DrillsAs, EndsAs, EndsAsChecked, EndsAsDrawn, EndsAsMade, EndsAsRun, EndsUnsaid, SolvesAs}
+use Rattle.adlb_command.specs.Ends.{fault_made, fault_run, fault_said, fault_told, why_of, why_of_cities}
+use Rattle.adlb_command.specs.Top.{DrillsAs, EndsAs, EndsAsChecked, EndsAsDrawn, EndsAsMade, EndsAsRun, EndsUnsaid, SolvesAs, ToursAs}
 use Rattle.adlb_command.specs.Words.{IsConfigOf, extras_of, settings_of}
 use Rattle.adlb_command.specs.declared.ends.AnyKept.{AnyKept}
-use Rattle.adlb_command.specs.declared.ends.RunFault.{RunFault}
-use Rattle.adlb_command.specs.declared.ends.RunFault.TheVariants.{Usage, Memory}
+use Rattle.adlb_command.specs.declared.ends.AnyKept.TheVariants.{Puzzles, Tours}
+use Rattle.adlb_command.specs.declared.faults.LineWhy.{LineWhy}
+use Rattle.adlb_command.specs.declared.faults.RunFault.{RunFault}
+use Rattle.adlb_command.specs.declared.faults.RunFault.TheVariants.{Usage, Memory}
 
 module _ (here : Scene) where
   reads_nothing : ReadsNothing here here
@@ -88,6 +96,13 @@ module _ (here : Scene) where
     ended = drilled_early (settings_of options) (IsConfigOf options.sizes options.inline) options.inline here here refl starts_none count
         seed reads_nothing;
   }
+  out_of_memory (Some (Tour w)) = record {
+    met = Some runs.Memory;
+    own = None;
+    fault_is = refl;
+    kept_is = refl;
+    ended = toured_early (IsConfigOf w.sizes false) here here refl starts_none;
+  }
 
   -- the words were not read
   unread_as : (said : Option Command) (met : WordsFault) → (met ≡ words.Usage → said ≡ None)
@@ -132,21 +147,39 @@ module _ (before after : Scene) (met : Option (Fault of_jobs.LineWhy)) (own : Op
           unread = here.unread;
         }
 
+-- The words say a run over cities, and this is how it ended.
+
+pub toured_said : (before after : Scene) (met : Option (Fault CitiesWhy)) (own : Option (Kept TourOutcome)) (config : Config)
+    (w : TourWords) → IsConfigOf w.sizes false config → FindsTour (λ x. x ≡ config) before after met own → ToursAs w before after met own
+toured_said before after met own config w is found = record {
+  ends = found.ends;
+  run = ran_as config before after (IsConfigOf w.sizes false) is false own found.run;
+}
+
 -- The words say a command, and this is how it ended.
 
 module _ (said : Option Command) (before after : Scene) (fault : Option RunFault) (kept : Option AnyKept) where
   pub ends_solved : (w : SolveWords) → said ≡ Some (Solve w) → (met : Option (Fault of_jobs.LineWhy)) (own : Option (Kept Outcome)) →
-      fault ≡ fault_ended met → kept ≡ kept_ended own → SolvesAs w before after met own → EndsAs said before after fault kept
+      fault ≡ option_map (fault_run why_of) met → kept ≡ option_map Puzzles own → SolvesAs w before after met own →
+      EndsAs said before after fault kept
   ends_solved w is met own fault_is same ended =
-      let run : EndsAsRun (SolvesAs w before after) fault kept =
+      let run : EndsAsRun why_of Puzzles (SolvesAs w before after) fault kept =
       record { met = met; own = own; fault_is = fault_is; kept_is = same; ended = ended } in
       subst (λ s. EndsAs s before after fault kept) (sym is) run
 
   pub ends_drilled : (count seed : ℕ) (options : RunOptions) → said ≡ Some (Drill count seed options) →
-      (met : Option (Fault of_jobs.LineWhy)) (own : Option (Kept Outcome)) → fault ≡ fault_ended met → kept ≡ kept_ended own →
-      DrillsAs count seed options before after met own → EndsAs said before after fault kept
+      (met : Option (Fault of_jobs.LineWhy)) (own : Option (Kept Outcome)) → fault ≡ option_map (fault_run why_of) met →
+      kept ≡ option_map Puzzles own → DrillsAs count seed options before after met own → EndsAs said before after fault kept
   ends_drilled count seed options is met own fault_is same ended =
-      let run : EndsAsRun (DrillsAs count seed options before after) fault kept =
+      let run : EndsAsRun why_of Puzzles (DrillsAs count seed options before after) fault kept =
+      record { met = met; own = own; fault_is = fault_is; kept_is = same; ended = ended } in
+      subst (λ s. EndsAs s before after fault kept) (sym is) run
+
+  pub ends_toured : (w : TourWords) → said ≡ Some (Tour w) → (met : Option (Fault CitiesWhy)) (own : Option (Kept TourOutcome)) →
+      fault ≡ option_map (fault_run why_of_cities) met → kept ≡ option_map Tours own → ToursAs w before after met own →
+      EndsAs said before after fault kept
+  ends_toured w is met own fault_is same ended =
+      let run : EndsAsRun why_of_cities Tours (ToursAs w before after) fault kept =
       record { met = met; own = own; fault_is = fault_is; kept_is = same; ended = ended } in
       subst (λ s. EndsAs s before after fault kept) (sym is) run
 
@@ -162,15 +195,15 @@ module _ (said : Option Command) (before after : Scene) (fault : Option RunFault
 
 -- No command that the words say ends as refused words do.
 
-no_usage_ran : (met : Option (Fault of_jobs.LineWhy)) → Some Usage ≡ fault_ended met → ⊥
-no_usage_ran None e = absurd (cc)
-no_usage_ran (Some (runs.Input line why)) e = absurd (cc)
-no_usage_ran (Some runs.Read) e = absurd (cc)
-no_usage_ran (Some runs.Write) e = absurd (cc)
-no_usage_ran (Some runs.NoThread) e = absurd (cc)
-no_usage_ran (Some runs.Memory) e = absurd (cc)
-no_usage_ran (Some (runs.TooLong stamp)) e = absurd (cc)
-no_usage_ran (Some (runs.TooLarge taken)) e = absurd (cc)
+no_usage_ran : {W : Type 0} (means : W → LineWhy) (met : Option (Fault W)) → Some Usage ≡ option_map (fault_run means) met → ⊥
+no_usage_ran means None e = absurd (cc)
+no_usage_ran means (Some (runs.Input line why)) e = absurd (cc)
+no_usage_ran means (Some runs.Read) e = absurd (cc)
+no_usage_ran means (Some runs.Write) e = absurd (cc)
+no_usage_ran means (Some runs.NoThread) e = absurd (cc)
+no_usage_ran means (Some runs.Memory) e = absurd (cc)
+no_usage_ran means (Some (runs.TooLong stamp)) e = absurd (cc)
+no_usage_ran means (Some (runs.TooLarge taken)) e = absurd (cc)
 
 no_usage_told : {X : Type 0} (told : Result X CheckFault) → Some Usage ≡ fault_told told → ⊥
 no_usage_told (Ok x) e = absurd (cc)
@@ -188,8 +221,9 @@ no_usage_made (Err makes.Memory) e = absurd (cc)
 pub usage_unsaid : (said : Option Command) (before after : Scene) (kept : Option AnyKept) →
     EndsAs said before after (Some Usage) kept → said ≡ None
 usage_unsaid None before after kept ends = refl
-usage_unsaid (Some (Solve w)) before after kept ends = absurd (no_usage_ran ends.met ends.fault_is)
+usage_unsaid (Some (Solve w)) before after kept ends = absurd (no_usage_ran why_of ends.met ends.fault_is)
 usage_unsaid (Some Check) before after kept ends = absurd (no_usage_told ends.checked ends.fault_is)
 usage_unsaid (Some (Make count seed)) before after kept ends = absurd (no_usage_made ends.made ends.fault_is)
-usage_unsaid (Some (Drill count seed options)) before after kept ends = absurd (no_usage_ran ends.met ends.fault_is)
+usage_unsaid (Some (Drill count seed options)) before after kept ends = absurd (no_usage_ran why_of ends.met ends.fault_is)
+usage_unsaid (Some (Tour w)) before after kept ends = absurd (no_usage_ran why_of_cities ends.met ends.fault_is)
 usage_unsaid (Some Draw) before after kept ends = absurd (no_usage_told ends.drawn ends.fault_is)

@@ -10,8 +10,8 @@ use Rattle.made_jobs.specs.declared.faults.MadeFault.TheVariants as makes
 use Rattle.adlb_command.specs.Ends.{fault_made}
 use Rattle.adlb_command.specs.Top.{EndsAsMade}
 use Rattle.adlb_command.specs.declared.ends.AnyKept.{AnyKept}
-use Rattle.adlb_command.specs.declared.ends.RunFault.{RunFault}
-use Rattle.adlb_command.specs.declared.ends.RunFault.TheVariants.{Memory}
+use Rattle.adlb_command.specs.declared.faults.RunFault.{RunFault}
+use Rattle.adlb_command.specs.declared.faults.RunFault.TheVariants.{Memory}
 
 -- nothing of a text was taken
 pub none_taken : (before after : Option (List ℕ)) (text : List ℕ) → after ≡ before → TakesPrefix before after text

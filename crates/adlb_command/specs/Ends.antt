@@ -4,22 +4,22 @@ use Rattle.adlb_unit.specs.declared.configs.Config.{Config}
 use Rattle.bag_ledger.specs.declared.entries.Entry.{Entry as LedgerEntry}
 use Rattle.command_words.specs.declared.commands.WordsFault.{WordsFault}
 use Rattle.command_words.specs.declared.commands.WordsFault.TheVariants as words
-use Rattle.job_report.specs.declared.outcomes.Outcome.{Outcome}
 use Rattle.job_text.specs.declared.faults.LineWhy as of_jobs
 use Rattle.job_text.specs.declared.faults.LineWhy.TheVariants as jobs
 use Rattle.ledger_command.specs.declared.faults.CheckFault.{CheckFault}
 use Rattle.ledger_command.specs.declared.faults.CheckFault.TheVariants as checks
 use Rattle.made_jobs.specs.declared.faults.MadeFault.{MadeFault}
 use Rattle.made_jobs.specs.declared.faults.MadeFault.TheVariants as makes
-use Rattle.run_command.specs.Kept.{Kept}
-use Rattle.run_command.specs.declared.faults.Fault as of_runs
+use Rattle.run_command.specs.declared.faults.Fault.{Fault}
 use Rattle.run_command.specs.declared.faults.Fault.TheVariants as runs
+use Rattle.tour_search.specs.declared.faults.CitiesWhy.{CitiesWhy}
+use Rattle.tour_search.specs.declared.faults.CitiesWhy.TheVariants as cities
 use Rattle.adlb_command.specs.declared.ends.AnyKept.{AnyKept}
-use Rattle.adlb_command.specs.declared.ends.AnyKept.TheVariants.{Puzzles}
-use Rattle.adlb_command.specs.declared.ends.LineWhy.{LineWhy}
-use Rattle.adlb_command.specs.declared.ends.LineWhy.TheVariants.{Long, Length, Character, Item, Number, Word, Entry}
-use Rattle.adlb_command.specs.declared.ends.RunFault.{RunFault}
-use Rattle.adlb_command.specs.declared.ends.RunFault.TheVariants.{Input, Usage, Read, Write, NoThread, Memory, TooLong, TooLarge}
+use Rattle.adlb_command.specs.declared.ends.AnyKept.TheVariants.{Puzzles, Tours}
+use Rattle.adlb_command.specs.declared.faults.LineWhy.{LineWhy}
+use Rattle.adlb_command.specs.declared.faults.LineWhy.TheVariants.{Long, Length, Character, Item, Number, Word, Entry, Cities, Cost, Extra}
+use Rattle.adlb_command.specs.declared.faults.RunFault.{RunFault}
+use Rattle.adlb_command.specs.declared.faults.RunFault.TheVariants.{Input, Usage, Read, Write, NoThread, Memory, TooLong, TooLarge}
 
 abbrev pub status_of : Option RunFault → ℕ
 status_of None = 0
@@ -39,7 +39,8 @@ IsFine (Some Memory) = Unit {0}
 IsFine (Some (TooLong stamp)) = Unit {0}
 IsFine fault = ⊥
 
--- Which fault of a command one of the words is, one of a run over puzzles and batches, one of a check or a drawing, and one of a making.
+-- Which fault of a command one of the words is; one of a run over puzzles and batches, or over cities, by what its reasons are; one of a
+-- check or a drawing, and one of a making.
 
 abbrev pub fault_said : WordsFault → RunFault
 fault_said words.Usage = Usage
@@ -53,14 +54,20 @@ why_of jobs.Item = Item
 why_of jobs.Number = Number
 why_of jobs.Word = Word
 
-abbrev pub fault_run : of_runs.Fault of_jobs.LineWhy → RunFault
-fault_run (runs.Input line why) = Input line (why_of why)
-fault_run runs.Read = Read
-fault_run runs.Write = Write
-fault_run runs.NoThread = NoThread
-fault_run runs.Memory = Memory
-fault_run (runs.TooLong stamp) = TooLong stamp
-fault_run (runs.TooLarge taken) = TooLarge taken
+abbrev pub why_of_cities : CitiesWhy → LineWhy
+why_of_cities cities.Long = Long
+why_of_cities cities.Cities = Cities
+why_of_cities cities.Cost = Cost
+why_of_cities cities.Extra = Extra
+
+abbrev pub fault_run : {W : Type 0} → (W → LineWhy) → Fault W → RunFault
+fault_run means (runs.Input line why) = Input line (means why)
+fault_run means runs.Read = Read
+fault_run means runs.Write = Write
+fault_run means runs.NoThread = NoThread
+fault_run means runs.Memory = Memory
+fault_run means (runs.TooLong stamp) = TooLong stamp
+fault_run means (runs.TooLarge taken) = TooLarge taken
 
 abbrev pub fault_at_check : CheckFault → RunFault
 fault_at_check checks.Read = Read
@@ -75,10 +82,6 @@ fault_at_making makes.Memory = Memory
 
 -- and that of its end, if there is one
 
-abbrev pub fault_ended : Option (of_runs.Fault of_jobs.LineWhy) → Option RunFault
-fault_ended None = None
-fault_ended (Some fault) = Some (fault_run fault)
-
 abbrev pub fault_told : {X : Type 0} → Result X CheckFault → Option RunFault
 fault_told (Ok told) = None
 fault_told (Err fault) = Some (fault_at_check fault)
@@ -87,14 +90,12 @@ abbrev pub fault_made : Result (Unit {0}) MadeFault → Option RunFault
 fault_made (Ok done) = None
 fault_made (Err fault) = Some (fault_at_making fault)
 
--- What is kept of a run over puzzles and batches, if anything is; and of what is kept its configuration and its ledger.
-
-abbrev pub kept_ended : Option (Kept Outcome) → Option AnyKept
-kept_ended None = None
-kept_ended (Some kept) = Some (Puzzles kept)
+-- Of what is kept its configuration and its ledger.
 
 abbrev pub config_kept : AnyKept → Config
 config_kept (Puzzles kept) = kept.report.config
+config_kept (Tours kept) = kept.report.config
 
 abbrev pub ledger_kept : AnyKept → List LedgerEntry
 ledger_kept (Puzzles kept) = kept.report.ledger
+ledger_kept (Tours kept) = kept.report.ledger

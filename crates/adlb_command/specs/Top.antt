@@ -1,10 +1,11 @@
 -- How a command ends, by what the words say.
-use Rattle.std.specs.Prelude.{◌≡◌, ◌⊎◌, ℕ, Option, Some, None, Result}
+use Rattle.std.specs.Prelude.{◌≡◌, ◌⊎◌, ℕ, false, Option, Some, None, Result, option_map}
 use Rattle.adlb_io.specs.Inputs.{Seen, seen}
 use Rattle.command_words.specs.declared.commands.Command.{Command}
-use Rattle.command_words.specs.declared.commands.Command.TheVariants.{Solve, Check, Make, Drill, Draw}
+use Rattle.command_words.specs.declared.commands.Command.TheVariants.{Solve, Check, Make, Drill, Tour, Draw}
 use Rattle.command_words.specs.declared.commands.RunOptions.{RunOptions}
 use Rattle.command_words.specs.declared.commands.SolveWords.{SolveWords}
+use Rattle.command_words.specs.declared.commands.TourWords.{TourWords}
 use Rattle.draw_command.specs.Ends.{DrawsTo}
 use Rattle.job_report.specs.declared.outcomes.Outcome.{Outcome}
 use Rattle.job_text.specs.declared.faults.LineWhy as of_jobs
@@ -20,11 +21,16 @@ use Rattle.run_command.specs.declared.faults.Fault.{Fault}
 use Rattle.run_command.specs.Kept.{Kept}
 use Rattle.solve_command.specs.Ends.{Drills, Solves}
 use Rattle.solve_command.specs.Told.{behind}
-use Rattle.adlb_command.specs.Ends.{fault_ended, fault_made, fault_told, kept_ended}
+use Rattle.tour_app.specs.declared.outcomes.TourOutcome.{TourOutcome}
+use Rattle.tour_command.specs.Ends.{FindsTour}
+use Rattle.tour_search.specs.declared.faults.CitiesWhy.{CitiesWhy}
+use Rattle.adlb_command.specs.Ends.{fault_made, fault_run, fault_told, why_of, why_of_cities}
 use Rattle.adlb_command.specs.Words.{IsConfigOf, extras_of, settings_of}
 use Rattle.adlb_command.specs.declared.ends.AnyKept.{AnyKept}
-use Rattle.adlb_command.specs.declared.ends.RunFault.{RunFault}
-use Rattle.adlb_command.specs.declared.ends.RunFault.TheVariants.{Usage, Memory}
+use Rattle.adlb_command.specs.declared.ends.AnyKept.TheVariants.{Puzzles, Tours}
+use Rattle.adlb_command.specs.declared.faults.LineWhy.{LineWhy}
+use Rattle.adlb_command.specs.declared.faults.RunFault.{RunFault}
+use Rattle.adlb_command.specs.declared.faults.RunFault.TheVariants.{Usage, Memory}
 
 -- what `check` and `draw` see of the outside
 abbrev pub seen_in : Scene → Seen
@@ -37,7 +43,7 @@ pub record EndsUnsaid (before after : Scene) (fault : Option RunFault) (kept : O
   pub silent : IsSilent before after kept
   pub none_started : StartsNone before after
 
--- the ends of `solve` and of `drill` with these words
+-- the ends of `solve`, of `drill` and of `tour` with these words
 abbrev pub SolvesAs : SolveWords → Scene → Scene → Option (Fault of_jobs.LineWhy) → Option (Kept Outcome) → Type 0
 SolvesAs words before after met kept =
     let o = words.options in
@@ -47,13 +53,16 @@ abbrev pub DrillsAs : ℕ → ℕ → RunOptions → Scene → Scene → Option 
 DrillsAs count seed options before after met kept =
     Drills count seed (settings_of options) (IsConfigOf options.sizes options.inline) options.inline before after met kept
 
--- a run over puzzles and batches ended so, with this fault of its own and this kept
-pub record EndsAsRun (ends : Option (Fault of_jobs.LineWhy) → Option (Kept Outcome) → Type 0) (fault : Option RunFault)
-    (kept : Option AnyKept) : Type 0 where
-  pub met : Option (Fault of_jobs.LineWhy)
-  pub own : Option (Kept Outcome)
-  pub fault_is : fault ≡ fault_ended met
-  pub kept_is : kept ≡ kept_ended own
+abbrev pub ToursAs : TourWords → Scene → Scene → Option (Fault CitiesWhy) → Option (Kept TourOutcome) → Type 0
+ToursAs words before after met kept = FindsTour (IsConfigOf words.sizes false) before after met kept
+
+-- a run of ranks ended so, with this fault of its own and this kept, which mean these
+pub record EndsAsRun {W O : Type 0} (means : W → LineWhy) (holds : Kept O → AnyKept) (ends : Option (Fault W) → Option (Kept O) → Type 0)
+    (fault : Option RunFault) (kept : Option AnyKept) : Type 0 where
+  pub met : Option (Fault W)
+  pub own : Option (Kept O)
+  pub fault_is : fault ≡ option_map (fault_run means) met
+  pub kept_is : kept ≡ option_map holds own
   pub ended : ends met own
 
 -- the ends of `check`: it ends as the check of the ledger did, keeps nothing, and starts no thread
@@ -85,8 +94,10 @@ pub record EndsAsMade (count seed : ℕ) (before after : Scene) (fault : Option 
 -- the ends of the command that the words say, if they say one
 abbrev pub EndsAs : Option Command → Scene → Scene → Option RunFault → Option AnyKept → Type 0
 EndsAs None before after fault kept = EndsUnsaid before after fault kept
-EndsAs (Some (Solve words)) before after fault kept = EndsAsRun (SolvesAs words before after) fault kept
+EndsAs (Some (Solve words)) before after fault kept = EndsAsRun why_of Puzzles (SolvesAs words before after) fault kept
 EndsAs (Some Check) before after fault kept = EndsAsChecked before after fault kept
 EndsAs (Some (Make count seed)) before after fault kept = EndsAsMade count seed before after fault kept
-EndsAs (Some (Drill count seed options)) before after fault kept = EndsAsRun (DrillsAs count seed options before after) fault kept
+EndsAs (Some (Drill count seed options)) before after fault kept =
+    EndsAsRun why_of Puzzles (DrillsAs count seed options before after) fault kept
+EndsAs (Some (Tour words)) before after fault kept = EndsAsRun why_of_cities Tours (ToursAs words before after) fault kept
 EndsAs (Some Draw) before after fault kept = EndsAsDrawn before after fault kept

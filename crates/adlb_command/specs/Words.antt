@@ -1,4 +1,4 @@
--- What the words say of a run over puzzles and batches.
+-- What the words say of a run.
 use Rattle.std.specs.Prelude.{◌≡◌, Bool, if◌then◌else◌}
 use Rattle.adlb_unit.specs.declared.configs.Config.{Config}
 use Rattle.command_words.specs.declared.commands.RunOptions.{RunOptions}

@@ -1,12 +1,13 @@
 //! What follows from how a command ends.
 
-ghost use Rattle.std.specs.Prelude.{◌≡◌, ◌⊎◌, ◌≤◌, ◌<◌, ◌+◌, ◌^◌, ℕ, Bool, true, List, Option, Some, None, length};
+ghost use Rattle.std.specs.Prelude.{◌≡◌, ◌⊎◌, ◌≤◌, ◌<◌, ◌+◌, ◌^◌, ℕ, Bool, true, List, Option, Some, None, Ok, Err, length};
 ghost use Rattle.adlb_io.specs.Outside.{Rises};
 ghost use Rattle.adlb_unit.specs.declared.configs.Config.{Config};
 ghost use Rattle.bag_ledger.specs.declared.entries.Entry.{Entry};
 ghost use Rattle.command_words.specs.declared.commands.Command.{Command};
 ghost use Rattle.command_words.specs.declared.commands.RunOptions.{RunOptions};
 ghost use Rattle.command_words.specs.declared.commands.SolveWords.{SolveWords};
+ghost use Rattle.command_words.specs.declared.commands.TourWords.{TourWords};
 ghost use Rattle.job_text.specs.declared.faults.LineWhy as of_jobs;
 ghost use Rattle.job_text.specs.Jobs.{input_jobs, input_refused};
 ghost use Rattle.ledger_command.specs.Input.{input_limit as ledger_limit};
@@ -14,10 +15,13 @@ ghost use Rattle.ledger_file.specs.Lines.{IsFirstBad, IsText};
 ghost use Rattle.made_jobs.specs.Made.{made_text};
 ghost use Rattle.run_command.specs.Ends.{Scene, input_limit};
 ghost use Rattle.spending_law.specs.Most.{most_calls};
+ghost use Rattle.tour_search.specs.Cities.{CitiesModel};
+ghost use Rattle.tour_search.specs.Reading.{input_cities};
+ghost use Rattle.tour_search.specs.declared.faults.CitiesWhy.{CitiesWhy};
 ghost use Rattle.adlb_command.specs.declared.ends.AnyKept.{AnyKept};
-ghost use Rattle.adlb_command.specs.declared.ends.LineWhy.{LineWhy};
-ghost use Rattle.adlb_command.specs.declared.ends.RunFault.{RunFault};
-ghost use Rattle.adlb_command.specs.Ends.{IsFine, why_of};
+ghost use Rattle.adlb_command.specs.declared.faults.LineWhy.{LineWhy};
+ghost use Rattle.adlb_command.specs.declared.faults.RunFault.{RunFault};
+ghost use Rattle.adlb_command.specs.Ends.{IsFine, why_of, why_of_cities};
 ghost use Rattle.adlb_command.specs.Top.{EndsAs};
 ghost use Rattle.adlb_command.specs.Words.{told_or_not};
 
@@ -28,13 +32,14 @@ use made_law::made_is_accepted;
 /// What follows from how a command ended (`EndsAs`). It ends with `Usage` only if the words say none (`usage`), and if they say none, with
 /// that or `Memory` (`unsaid`).
 ///
-/// It ends in the same ways whether or not its progress is to be said (`told`, `drill_told`).
+/// It ends in the same ways whether or not its progress is to be said (`told`, `drill_told`, `tour_told`).
 ///
 /// What follows of a source that tells its bytes, if no read failed. `solve`: an accepted input is answered, if no
 /// write failed and no start was refused either (`complete`). A refused one is refused at its first such line
 /// (`refused`), and one that is too long is told as such (`overlong`). In each case memory may fail, and in the first
 /// the stamps may end. With `--inline` they do so only if one rank may make 2^34 calls for the jobs of the input
-/// (`in_line`), or for those that are made (`drilled_in_line`).
+/// (`in_line`), or for those that are made (`drilled_in_line`). So it is of `tour` (`tour_complete`, `tour_refused`,
+/// `tour_overlong`), but for the last.
 ///
 /// `check`: a text of a ledger is told (`checked`), and any other input is refused at its first
 /// line that is not what is due (`bad`). One that is too long is told as such (`long`). In each case memory may fail.
@@ -63,6 +68,20 @@ pub fn end_laws()
     ensures drill_told { (count seed : ℕ) (options : RunOptions) (told : Bool) (before after : Scene) (fault : Option RunFault) (kept : Option AnyKept) →
         EndsAs (Some (Command.Drill count seed options)) before after fault kept →
         EndsAs (Some (Command.Drill count seed (told_or_not told options))) before after fault kept }
+    ensures tour_complete { (words : TourWords) (before after : Scene) (fault : Option RunFault) (kept : Option AnyKept) (bytes : List ℕ) →
+        EndsAs (Some (Command.Tour words)) before after fault kept → before.left ≡ Some bytes → (Rises before.reads after.reads → ⊥) →
+        (cities : CitiesModel) → length bytes ≤ input_limit → input_cities bytes ≡ Ok cities →
+        (Rises before.writes after.writes → ⊥) → (Rises before.refused after.refused → ⊥) → IsFine fault }
+    ensures tour_refused { (words : TourWords) (before after : Scene) (fault : Option RunFault) (kept : Option AnyKept) (bytes : List ℕ) →
+        EndsAs (Some (Command.Tour words)) before after fault kept → before.left ≡ Some bytes → (Rises before.reads after.reads → ⊥) →
+        (line : ℕ) (why : CitiesWhy) → length bytes ≤ input_limit → input_cities bytes ≡ Err (line, why) →
+        (fault ≡ Some (RunFault.Input line (why_of_cities why))) ⊎ (fault ≡ Some RunFault.Memory) }
+    ensures tour_overlong { (words : TourWords) (before after : Scene) (fault : Option RunFault) (kept : Option AnyKept) (bytes : List ℕ) →
+        EndsAs (Some (Command.Tour words)) before after fault kept → before.left ≡ Some bytes → (Rises before.reads after.reads → ⊥) →
+        input_limit < length bytes → (fault ≡ Some (RunFault.TooLarge (input_limit + 1))) ⊎ (fault ≡ Some RunFault.Memory) }
+    ensures tour_told { (words : TourWords) (told : Bool) (before after : Scene) (fault : Option RunFault) (kept : Option AnyKept) →
+        EndsAs (Some (Command.Tour words)) before after fault kept →
+        EndsAs (Some (Command.Tour (record words { progress = told }))) before after fault kept }
     ensures checked { (before after : Scene) (fault : Option RunFault) (kept : Option AnyKept) (bytes : List ℕ) →
         EndsAs (Some Command.Check) before after fault kept → before.left ≡ Some bytes → (Rises before.reads after.reads → ⊥) →
         (config : Config) (ledger : List Entry) → length bytes ≤ ledger_limit → IsText config ledger bytes →

@@ -7,7 +7,8 @@ ghost use Rattle.run_command.specs.Ends.{scene};
 ghost use Rattle.adlb_command.specs.Ends.{status_of};
 ghost use Rattle.adlb_command.specs.Top.{EndsAs, EndsAsChecked, EndsAsDrawn, EndsAsMade};
 
-use crate::ends::{RunEnd, RunFault};
+use crate::ends::RunEnd;
+use crate::faults::RunFault;
 use crate::words::{config, extras, settings};
 use adlb_io::{Gate, Sink, Source, Spawner};
 use command_words::{Command, read_words};
@@ -16,16 +17,18 @@ use ledger_command::check_ledger;
 use made_jobs::write_made;
 use solve_command::{drill, solve};
 use std::alloc::Global;
+use tour_command::tour;
 
 /// Runs the command that the words give. `solve` reads puzzles and batches of items from the input, and writes their report to
-/// the output, and what else the words ask for; `make` reads nothing, and writes puzzles and batches that are made from a seed; `drill`
-/// reads nothing, works these as `solve` would, and writes a summary; `check` reads the text of a ledger, and writes whether it is a
-/// legal run; `draw` reads one, and writes its picture. `solve` and `drill` run each rank and each server in a thread of its own, and wait for them, unless the words say
-/// `--inline`; the others start no thread. Status 0 says that the whole output was written and flushed.
+/// the output, and what else the words ask for. `make` reads nothing, and writes puzzles and batches that are made from a seed; `drill`
+/// reads nothing, works these as `solve` would, and writes a summary. `check` reads the text of a ledger, and writes whether it is a
+/// legal run; `draw` reads one, and writes its picture. `tour` reads cities, and writes a least tour through them. `solve`, `drill` and
+/// `tour` run each rank and each server in a thread of its own, and wait for them, unless the words say `--inline`; the others start no
+/// thread. Status 0 says that the whole output was written and flushed.
 ///
-/// It ends as the command does that the words say (`EndsAs`): `solve` and `drill` by their row of `EndsBy`, `make` as `write_made` and
-/// `check` as `check_ledger`, `draw` as `draw_ledger`. If they say none it ends with `Usage`, and nothing is read or written then. Each fault that has its cause
-/// yields to `Memory`. What follows of accepted and refused inputs is in `end_laws`.
+/// It ends as the command does that the words say (`EndsAs`): `solve`, `drill` and `tour` by their row of `EndsBy`, `make` as
+/// `write_made`, `check` as `check_ledger`, and `draw` as `draw_ledger`. If they say none it ends with `Usage`, and nothing is read or
+/// written then. Each fault that has its cause yields to `Memory`. What follows of accepted and refused inputs is in `end_laws`.
 pub fn run_adlb<S: Source, K: Sink, T: Spawner, G: Gate + Send + Drop + 'static>(
     alloc: Global,
     words: &[String],
@@ -73,6 +76,14 @@ pub fn run_adlb<S: Source, K: Sink, T: Spawner, G: Gate + Send + Drop + 'static>
             settings(&options),
             config(&options.sizes, options.inline),
             options.inline,
+            output,
+            threads,
+            gate,
+        )),
+        Ok(Command::Tour(words)) => RunEnd::of(tour(
+            alloc,
+            config(&words.sizes, false),
+            input,
             output,
             threads,
             gate,

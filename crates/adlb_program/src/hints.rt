@@ -8,10 +8,12 @@ const USAGE: &[&str] = &[
     "drill N SEED [OPTION..]                 make N puzzles from SEED and solve them",
     "make N SEED                             write N puzzles, made from SEED",
     "check                                   tell whether standard input is the text of a legal ledger",
+    "tour [OPTION..]                         write a least round tour through the cities of standard input",
     "N is 0 to 100000, SEED 0 to 2^64 - 1. Options, each once at most, as --ranks 4 or --ranks=4:",
     "--ranks 1 to 32, or 4        --servers 1 to 8, or 2       --limit 64 to 2^30 bytes a server, or 2^26",
     "--budget 1 to 2^32 nodes a puzzle, or 2^24                --grain 1 to 2^32 nodes a unit, or 2^16",
     "--inline: one rank and one server, and no thread          --progress: how far it is, each second; not in line",
+    "tour takes --ranks, --servers, --limit and --progress",
     "--stats: counts of the run behind the report              --ledger: all that happened, behind the report",
     "draw                                    write a picture, an SVG, of the ledger whose text standard input is",
 ];
@@ -50,6 +52,14 @@ fn line_hints(why: &LineWhy) -> &'static [&'static str] {
             "a line begins with a digit, a dot or A to G, as a puzzle, or with the word batch, count, sum or max",
             "a line that is empty or begins with # is passed over",
         ],
+        LineWhy::Cities => &[
+            "the first line is cities N, with N from 1 to 12 and one space before it",
+        ],
+        LineWhy::Cost => &[
+            "a row has N numbers from 0 to 1000000, one space between two: what it costs to go from its city to each",
+            "after the first line there are N rows",
+        ],
+        LineWhy::Extra => &["nothing follows the rows of costs"],
         LineWhy::Entry => &[
             "a ledger begins with ledger RANKS SERVERS LIMIT, has an entry a line, and ends with end N",
             "solve --ledger writes one behind its report, from the line that begins with ledger on",

@@ -2,7 +2,7 @@
 
 ghost use Rattle.std.specs.Prelude.{◌≡◌, Option};
 ghost use Rattle.adlb_command.specs.Ends.{status_of};
-ghost use Rattle.adlb_command.specs.declared.ends.RunFault.{RunFault};
+ghost use Rattle.adlb_command.specs.declared.faults.RunFault.{RunFault};
 
 use crate::complaints::Complaint;
 use crate::telling::{Telling, end};

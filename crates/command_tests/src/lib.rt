@@ -1,10 +1,12 @@
 //! The top call, from words and bytes to what is written.
 //!
 //! It holds tests alone, in a crate of their own so that `adlb_command` is not proved again with them. They are the worked rows in
-//! line and with threads, bad input, other commands, faults outside, lists of solutions made by another solver, and what is said of
-//! each fault.
+//! line and with threads, bad input, other commands, faults outside, lists of solutions made by another solver, least tours beside a
+//! search of all orders, and what is said of each fault.
 #![tactic(auto)]
 
+#[cfg(test)]
+mod draws;
 #[cfg(test)]
 mod faults;
 #[cfg(test)]
@@ -25,3 +27,5 @@ mod tables;
 mod texts;
 #[cfg(test)]
 mod threaded;
+#[cfg(test)]
+mod tours;

@@ -3,6 +3,8 @@
 use adlb_command::{AnyKept, RunEnd, run_adlb};
 use adlb_io::{FreeGate, Gate, Spawner, SteadySink, SteadySource};
 use bag_ledger::Entry;
+use ledger_checker::first_illegal;
+use run_command::Kept;
 use std::alloc::Global;
 use std::test::Fail;
 
@@ -49,15 +51,18 @@ pub fn seen(alloc: Global, end: &RunEnd, written: &[u8]) -> Result<Ran, Fail> {
 // The kept ledger, and how many units are left.
 fn kept(alloc: Global, end: &RunEnd) -> Result<(String, usize), Fail> {
     match &end.kept {
-        Some(AnyKept::Puzzles(kept)) => {
-            let report = kept.report();
-            Ok((
-                names(alloc, &report.ledger.list(alloc)?)?,
-                report.left.len(),
-            ))
-        }
+        Some(AnyKept::Puzzles(kept)) => shown(alloc, kept),
+        Some(AnyKept::Tours(kept)) => shown(alloc, kept),
         None => Ok((String::new(alloc), 0)),
     }
+}
+
+fn shown<O>(alloc: Global, kept: &Kept<O>) -> Result<(String, usize), Fail> {
+    let report = kept.report();
+    Ok((
+        names(alloc, &report.ledger.list(alloc)?)?,
+        report.left.len(),
+    ))
 }
 
 fn fault(alloc: Global, end: &RunEnd) -> Result<String, Fail> {
@@ -132,4 +137,31 @@ pub fn run_gated<T: Spawner, G: Gate + Send + Drop + 'static>(
         gate,
     );
     seen(alloc, &end, output.taken())
+}
+
+/// A run with these words on this input writes this report, and keeps a ledger that is a legal run.
+pub fn is_legal<T: Spawner>(
+    alloc: Global,
+    threads: &mut T,
+    line: &str,
+    input: &str,
+    report: &str,
+) -> Result<bool, Fail> {
+    let words = words(alloc, line)?;
+    let mut input = SteadySource::new(input.as_bytes().to_vec(alloc)?);
+    let mut output = SteadySink::new(alloc);
+    let end = run_adlb(
+        alloc,
+        words.as_slice(),
+        &mut input,
+        &mut output,
+        threads,
+        FreeGate {},
+    );
+    let Some(kept) = &end.kept else {
+        return Ok(false);
+    };
+    let config = kept.config();
+    let illegal = first_illegal(alloc, kept.ledger(), &config)?;
+    Ok(end.status == 0 && illegal.is_none() && output.taken() == report.as_bytes())
 }

@@ -1,15 +1,11 @@
 //! Starts that are refused, two ranks that really interleave, and many runs, each with a legal ledger.
 
-use crate::runs::{run_gated, run_words, words};
+use crate::draws::Draws;
+use crate::runs::{is_legal, run_gated, run_words};
 use crate::tables::{FORCED, FORCED_SOLVED, TWO, TWO_SOLVED};
-use adlb_command::run_adlb;
-use adlb_io::{
-    FreeGate, Gate, GatePoint, ListedThreads, RealThreads, Spawner, SteadySink, SteadySource,
-};
+use crate::tours::{SQUARE, SQUARE_TOURED};
+use adlb_io::{Gate, GatePoint, ListedThreads, RealThreads, Spawner};
 use adlb_unit::{NoMemory, Rank, or_no_memory};
-use ledger_checker::first_illegal;
-use rand_core::utils::NextWord;
-use rand_pcg::Pcg32;
 use std::alloc::Global;
 use std::hint;
 use std::sync::atomic::{AtomicU64, Ordering};
@@ -59,6 +55,7 @@ const STARTS: &[(&str, (&str, &str), u64)] = &[
     ("solve --ranks 2 --servers 2", (TWO, TWO_SOLVED), 4),
     ("solve --ranks 32 --servers 8", (FORCED, FORCED_SOLVED), 40),
     ("solve", (FORCED, FORCED_SOLVED), 6),
+    ("tour --ranks 2 --servers 1", (SQUARE, SQUARE_TOURED), 3),
 ];
 
 #[test]
@@ -225,33 +222,10 @@ fn two_ranks_interleave(rt: HostRuntime) -> Result<(), Fail> {
     Err("no rank saw the other".into())
 }
 
-/// The stream of the generator.
-const STREAM: u64 = 7;
-
 /// How many inputs a test makes, and how many runs with threads there are over each: in ten tests 5,000 runs. A test may take a minute.
 const INPUTS: u32 = 25;
 
 const RUNS: u32 = 20;
-
-/// Numbers as a seed gives them.
-#[derive(Drop)]
-struct Draws {
-    generator: Pcg32,
-}
-
-impl Draws {
-    fn new(seed: u64) -> Draws {
-        Draws {
-            generator: Pcg32::new(seed, STREAM),
-        }
-    }
-
-    // One of the numbers below this one, and 0 below 0.
-    fn below(&mut self, count: u32) -> u32 {
-        let word: u32 = self.generator.next_word();
-        word % count.max(1)
-    }
-}
 
 // The words of a run with threads that splits boards at this grain.
 fn drawn_line(alloc: Global, draws: &mut Draws, grain: u32) -> Result<String, Fail> {
@@ -265,33 +239,6 @@ fn drawn_line(alloc: Global, draws: &mut Draws, grain: u32) -> Result<String, Fa
         limit as u64 + 64
     )?;
     Ok(line)
-}
-
-// A run with these words on this input writes this report, and keeps a ledger that is a legal run.
-fn is_legal<T: Spawner>(
-    alloc: Global,
-    threads: &mut T,
-    line: &str,
-    input: &str,
-    report: &str,
-) -> Result<bool, Fail> {
-    let words = words(alloc, line)?;
-    let mut input = SteadySource::new(input.as_bytes().to_vec(alloc)?);
-    let mut output = SteadySink::new(alloc);
-    let end = run_adlb(
-        alloc,
-        words.as_slice(),
-        &mut input,
-        &mut output,
-        threads,
-        FreeGate {},
-    );
-    let Some(kept) = &end.kept else {
-        return Ok(false);
-    };
-    let config = kept.config();
-    let illegal = first_illegal(alloc, kept.ledger(), &config)?;
-    Ok(end.status == 0 && illegal.is_none() && output.taken() == report.as_bytes())
 }
 
 // What a run with these words writes on this input.

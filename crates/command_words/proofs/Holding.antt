@@ -201,7 +201,7 @@ module _ (app : App) (old : Command) (m : ArgMatches) (p : IsParsedFrom old m) (
     seed = number_holds app old m p same_app (codes "seed") seeds.low seeds.high (named app _ _ _ seed);
   }
 
-  sizes_hold : names app (codes "ranks") rank_counts.low rank_counts.high ≡ true
+  pub sizes_hold : names app (codes "ranks") rank_counts.low rank_counts.high ≡ true
       → names app (codes "servers") server_counts.low server_counts.high ≡ true
       → names app (codes "limit") limits.low limits.high ≡ true → HoldsSizes (rows_of (found_of m))
   sizes_hold ranks servers limit = record {

@@ -2,7 +2,7 @@
 use Rattle.std.proofs.Common.{◌≡◌, ◌∷◌, [], None, Some, codes, false, refl, true}
 use Rattle.clap.proofs.OnLiterals.{clap_on_literals}
 use Rattle.command_words.specs.Said.{command_of, default_run}
-use Rattle.command_words.specs.declared.commands.Command.TheVariants.{Check, Draw, Drill, Make, Solve}
+use Rattle.command_words.specs.declared.commands.Command.TheVariants.{Check, Draw, Drill, Make, Solve, Tour}
 
 no_word : command_of [] ≡ None
 no_word = refl
@@ -86,6 +86,15 @@ told : command_of (codes "drill" ∷ codes "3" ∷ codes "4" ∷ codes "--progre
     ≡ Some (Drill 3 4 (record default_run { progress = true }))
 unfolding clap_on_literals
 told = refl
+
+tour : command_of (codes "tour" ∷ codes "--limit=64" ∷ codes "--progress" ∷ [])
+    ≡ Some (Tour (record { sizes = record default_run.sizes { limit = 64 }; progress = true }))
+unfolding clap_on_literals
+tour = refl
+
+tour_in_line : command_of (codes "tour" ∷ codes "--inline" ∷ []) ≡ None
+unfolding clap_on_literals
+tour_in_line = refl
 
 draw : command_of (codes "draw" ∷ []) ≡ Some Draw
 unfolding clap_on_literals

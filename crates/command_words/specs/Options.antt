@@ -73,5 +73,8 @@ make_app = with_made (bare (codes "make"))
 abbrev pub drill_app : App
 drill_app = with_run (with_made (bare (codes "drill")))
 
+abbrev pub tour_app : App
+tour_app = with_rule (with_sizes (bare (codes "tour"))) (flag_rule (codes "progress"))
+
 abbrev pub draw_app : App
 draw_app = bare (codes "draw")

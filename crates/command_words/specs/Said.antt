@@ -5,10 +5,10 @@ use Rattle.std.specs.Str.{bytes_eq}
 use Rattle.std.specs.Str.Parse.{digits_value, without_leading_plus}
 use Rattle.adlb_unit.specs.Limits.{InLimit}
 use Rattle.clap.specs.Words.{App, Kinds, Row, Text, fault_of, matches_of, one_of}
-use Rattle.command_words.specs.Options.{check_app, draw_app, drill_app, make_app, solve_app}
+use Rattle.command_words.specs.Options.{check_app, draw_app, drill_app, make_app, solve_app, tour_app}
 use Rattle.command_words.specs.Ranges.{IsIn, budgets, counts, grains, limits, rank_counts, seeds, server_counts}
 use Rattle.command_words.specs.declared.commands.Command.{Command}
-use Rattle.command_words.specs.declared.commands.Command.TheVariants.{Solve, Check, Make, Drill, Draw}
+use Rattle.command_words.specs.declared.commands.Command.TheVariants.{Solve, Check, Make, Drill, Tour, Draw}
 use Rattle.command_words.specs.declared.commands.RunOptions.{RunOptions}
 use Rattle.command_words.specs.declared.commands.Sizes.{Sizes}
 
@@ -62,6 +62,9 @@ drill_of rows = Drill
     (number_of (codes "seed") seeds.default rows)
     (run_of rows)
 
+abbrev pub tour_of : List Row → Command
+tour_of rows = Tour (record { sizes = sizes_of rows; progress = flag_of (codes "progress") rows })
+
 abbrev pub draw_of : List Row → Command
 draw_of rows = Draw
 
@@ -82,8 +85,9 @@ command_of (word ∷ words) =
     else (if bytes_eq word (codes "check") then read_by check_app check_of words
     else (if bytes_eq word (codes "make") then read_by make_app make_of words
     else (if bytes_eq word (codes "drill") then read_by drill_app drill_of words
+    else (if bytes_eq word (codes "tour") then read_by tour_app tour_of words
     else (if bytes_eq word (codes "draw") then read_by draw_app draw_of words
-    else None))))
+    else None)))))
 
 -- a run in threads tells each second how far it is
 abbrev pub run_tells : RunOptions → Bool
@@ -92,6 +96,7 @@ run_tells run = run.progress && not run.inline
 abbrev pub tells_progress : Command → Bool
 tells_progress (Solve words) = run_tells words.options
 tells_progress (Drill count seed run) = run_tells run
+tells_progress (Tour words) = words.progress
 tells_progress _ = false
 
 -- the numbers of a run are within their limits
@@ -111,4 +116,5 @@ IsWithin (Solve words) = IsRunWithin words.options
 IsWithin Check = ⊤
 IsWithin (Make count seed) = IsIn counts count
 IsWithin (Drill count seed run) = IsIn counts count × IsRunWithin run
+IsWithin (Tour words) = AreWithin words.sizes
 IsWithin Draw = ⊤

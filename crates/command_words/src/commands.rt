@@ -40,6 +40,14 @@ pub struct SolveWords {
     pub ledger: bool,
 }
 
+/// What `tour` is told.
+#[derive(Clone, Copy)]
+pub struct TourWords {
+    pub sizes: Sizes,
+    /// Its run tells each second how far it is.
+    pub progress: bool,
+}
+
 /// A command with its words.
 #[derive(Clone, Copy)]
 pub enum Command {
@@ -58,6 +66,8 @@ pub enum Command {
         seed: u64,
         options: RunOptions,
     },
+    /// Find a least tour through the input's cities.
+    Tour(TourWords),
     /// Draw a ledger's text.
     Draw,
 }
@@ -72,6 +82,7 @@ impl Command {
         match self {
             Command::Solve(words) => words.options.progress && !words.options.inline,
             Command::Drill { options, .. } => options.progress && !options.inline,
+            Command::Tour(words) => words.progress,
             Command::Check | Command::Make { .. } | Command::Draw => false,
         }
     }

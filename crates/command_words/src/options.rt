@@ -3,7 +3,7 @@
 ghost use Rattle.std.specs.Prelude.{◌≡◌, IfOk, false};
 ghost use Rattle.clap.specs.Words.{app_of, rule_of, with_rule};
 ghost use Rattle.command_words.specs.Options.{bare, check_app, draw_app, drill_app, flag_rule, make_app, number_rule};
-ghost use Rattle.command_words.specs.Options.{option_rule, solve_app, with_made, with_manner, with_run, with_sizes, with_work};
+ghost use Rattle.command_words.specs.Options.{option_rule, solve_app, tour_app, with_made, with_manner, with_run, with_sizes, with_work};
 
 use clap::builder::ValueParser;
 use clap::{Arg, ArgAction, Command};
@@ -150,6 +150,14 @@ pub(crate) fn drill_command<'a>(alloc: Global) -> Result<Command<'a>, AllocError
     ensures { IfOk result (λ c. app_of c ≡ drill_app) }
 {
     with_run(alloc, with_made(alloc, command(alloc, "drill"))?)
+}
+
+/// `tour` (`tour_app`).
+pub(crate) fn tour_command<'a>(alloc: Global) -> Result<Command<'a>, AllocError>
+    ensures { IfOk result (λ c. app_of c ≡ tour_app) }
+{
+    let command = with_sizes(alloc, command(alloc, "tour"))?;
+    with_flag(alloc, command, "progress")
 }
 
 /// `draw` (`draw_app`).

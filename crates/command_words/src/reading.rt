@@ -4,14 +4,16 @@ ghost use Rattle.std.specs.Prelude.{◌≡◌, ◌≢◌, IfErr, IfOk, None, Som
 ghost use Rattle.std.specs.String.{string_bytes};
 ghost use Rattle.clap.specs.Words.{IsParsedFrom, app_of, fault_of, found_of, is_simple_and_free, rows_of};
 ghost use Rattle.command_words.specs.inside.{HoldsIn, HoldsMade, HoldsRun, HoldsSizes, IsFound};
-ghost use Rattle.command_words.specs.Options.{check_app, draw_app, drill_app, make_app, solve_app};
+ghost use Rattle.command_words.specs.Options.{check_app, draw_app, drill_app, make_app, solve_app, tour_app};
 ghost use Rattle.command_words.specs.Ranges.{IsIn, counts, seeds};
 ghost use Rattle.command_words.specs.Said.{AreWithin, IsRunWithin, IsWithin, check_of, command_of, draw_of, drill_of, flag_of};
-ghost use Rattle.command_words.specs.Said.{make_of, number_of, read_by, run_of, sizes_of, solve_of};
+ghost use Rattle.command_words.specs.Said.{make_of, number_of, read_by, run_of, sizes_of, solve_of, tour_of};
 ghost use Rattle.command_words.specs.declared.commands.WordsFault.TheVariants.{Usage};
 
-use crate::commands::{Command, RunOptions, Sizes, SolveWords, WordsFault};
-use crate::options::{check_command, draw_command, drill_command, make_command, solve_command};
+use crate::commands::{Command, RunOptions, Sizes, SolveWords, TourWords, WordsFault};
+use crate::options::{
+    check_command, draw_command, drill_command, make_command, solve_command, tour_command,
+};
 use clap::ArgMatches;
 use clap::error::ErrorKind;
 use std::alloc::Global;
@@ -140,6 +142,19 @@ fn read_drill(alloc: Global, words: &[String]) -> Result<Command, WordsFault>
     })
 }
 
+fn read_tour(alloc: Global, words: &[String]) -> Result<Command, WordsFault>
+    ensures said { IfOk result (λ c. read_by tour_app tour_of (map string_bytes words.now) ≡ Some c) }
+    ensures within { IfOk result IsWithin }
+    ensures refused { IfErr result (λ f. f ≡ Usage →
+        read_by tour_app tour_of (map string_bytes words.now) ≡ None) }
+{
+    let matches = matches_of(tour_command(alloc)?, words)?;
+    Ok(Command::Tour(TourWords {
+        sizes: sizes_of(&matches),
+        progress: flag_of(&matches, "progress"),
+    }))
+}
+
 fn read_draw(alloc: Global, words: &[String]) -> Result<Command, WordsFault>
     ensures said { IfOk result (λ c. read_by draw_app draw_of (map string_bytes words.now) ≡ Some c) }
     ensures within { IfOk result IsWithin }
@@ -164,6 +179,7 @@ pub fn read_words(alloc: Global, words: &[String]) -> Result<Command, WordsFault
             "check" => read_check(alloc, rest),
             "make" => read_make(alloc, rest),
             "drill" => read_drill(alloc, rest),
+            "tour" => read_tour(alloc, rest),
             "draw" => read_draw(alloc, rest),
             _ => Err(WordsFault::Usage),
         },

@@ -1,11 +1,12 @@
 //! What lists of words say, and which are refused.
 
-use command_words::{Command, RunOptions, Sizes, WordsFault, read_words};
+use command_words::{Command, RunOptions, Sizes, TourWords, WordsFault, read_words};
 use std::alloc::Global;
 use std::test::Fail;
 
 /// Each list of words, with blanks between, and what it says: the command, N and SEED, then ranks, servers, limit, budget,
-/// grain and inline, then whether progress is told, then stats and ledger. It says nothing if it is refused.
+/// grain and inline, then whether progress is told, then stats and ledger. `tour` has no budget, grain or inline. It says nothing if it is
+/// refused.
 const ROWS: &[(&str, &str)] = &[
     (
         "solve",
@@ -79,6 +80,12 @@ const ROWS: &[(&str, &str)] = &[
         "drill --inline 8 1 --progress",
         "drill 8 1 4 2 67108864 16777216 65536 true progress",
     ),
+    ("tour", "tour 4 2 67108864"),
+    ("tour --ranks 1 --servers 1", "tour 1 1 67108864"),
+    (
+        "tour --progress --limit=64 --ranks=32 --servers=8",
+        "tour 32 8 64 progress",
+    ),
     ("", ""),
     ("frob", ""),
     ("Solve", ""),
@@ -128,7 +135,35 @@ const ROWS: &[(&str, &str)] = &[
     ("drill 8", ""),
     ("drill 8 1 --stats", ""),
     ("drill 8 1 --ledger", ""),
+    ("tour 8", ""),
+    ("tour --ranks 33", ""),
+    ("tour --limit 63", ""),
+    ("tour --limit 64 --limit 64", ""),
+    ("tour --inline", ""),
+    ("tour --grain 1", ""),
+    ("tour --budget 1", ""),
+    ("tour --stats", ""),
+    ("tour --ledger", ""),
 ];
+
+fn sizes_shown(alloc: Global, sizes: Sizes) -> Result<String, Fail> {
+    let Sizes {
+        ranks,
+        servers,
+        limit,
+    } = sizes;
+    Ok(format!(in alloc; "{ranks} {servers} {limit}")?)
+}
+
+fn told(progress: bool) -> &'static str {
+    if progress { " progress" } else { "" }
+}
+
+fn tour_shown(alloc: Global, words: TourWords) -> Result<String, Fail> {
+    let sizes = sizes_shown(alloc, words.sizes)?;
+    let told = told(words.progress);
+    Ok(format!(in alloc; "tour {sizes}{told}")?)
+}
 
 fn run_shown(alloc: Global, run: RunOptions) -> Result<String, Fail> {
     let RunOptions {
@@ -138,13 +173,9 @@ fn run_shown(alloc: Global, run: RunOptions) -> Result<String, Fail> {
         inline,
         progress,
     } = run;
-    let Sizes {
-        ranks,
-        servers,
-        limit,
-    } = sizes;
-    let told = if progress { " progress" } else { "" };
-    Ok(format!(in alloc; "{ranks} {servers} {limit} {budget} {grain} {inline}{told}")?)
+    let sizes = sizes_shown(alloc, sizes)?;
+    let told = told(progress);
+    Ok(format!(in alloc; "{sizes} {budget} {grain} {inline}{told}")?)
 }
 
 fn shown(alloc: Global, command: Command) -> Result<String, Fail> {
@@ -165,6 +196,7 @@ fn shown(alloc: Global, command: Command) -> Result<String, Fail> {
             let run = run_shown(alloc, options)?;
             format!(in alloc; "drill {count} {seed} {run}")?
         }
+        Command::Tour(words) => tour_shown(alloc, words)?,
     })
 }
 

@@ -4,6 +4,8 @@ use Rattle.run_command.specs.declared.faults.Fault.TheVariants as runs
 use Rattle.solve_command.proofs.Drilled.{drilled_fine, drilled_in_line}
 use Rattle.solve_command.proofs.Ended.{accepted_fine, overlong_told, refused_at_line, short_in_line}
 use Rattle.solve_command.specs.Told.{IsReported, behind}
+use Rattle.tour_command.proofs.Ended as cities
+use Rattle.adlb_command.specs.Ends.{why_of, why_of_cities}
 use Rattle.adlb_command.specs.Words.{IsConfigOf, extras_of, settings_of}
 use Rattle.adlb_command.proofs.Checked.{bad_checked, long_checked, text_checked}
 use Rattle.adlb_command.proofs.Drawn.{bad_drawn, long_drawn, text_drawn}
@@ -20,21 +22,21 @@ returns-clause-unsaid c = λ before after fault kept ends. ends.cause
 
 pub returns-clause-complete : goal.returns-clause-complete
 returns-clause-complete c = λ words before after fault kept bytes ends told no_read short fine no_write no_refusal.
-    fine_told fault ends.met ends.fault_is
+    fine_told why_of fault ends.met ends.fault_is
     (accepted_fine (settings_of words.options) words.options.inline
     (IsReported (settings_of words.options) (behind (extras_of words))) before after ends.met ends.own bytes ends.ended.ends told no_read
     short fine no_write no_refusal)
 
 pub returns-clause-refused : goal.returns-clause-refused
 returns-clause-refused c = λ words before after fault kept bytes ends told no_read line why short is.
-    either_told fault ends.met ends.fault_is (Some (runs.Input line why)) (Some runs.Memory)
+    either_told why_of fault ends.met ends.fault_is (Some (runs.Input line why)) (Some runs.Memory)
     (refused_at_line (settings_of words.options) words.options.inline
     (IsReported (settings_of words.options) (behind (extras_of words))) before after ends.met ends.own bytes ends.ended.ends told no_read
     line why short is)
 
 pub returns-clause-overlong : goal.returns-clause-overlong
 returns-clause-overlong c = λ words before after fault kept bytes ends told no_read long.
-    either_told fault ends.met ends.fault_is (Some (runs.TooLarge (input_limit + 1))) (Some runs.Memory)
+    either_told why_of fault ends.met ends.fault_is (Some (runs.TooLarge (input_limit + 1))) (Some runs.Memory)
     (overlong_told (settings_of words.options) words.options.inline
     (IsReported (settings_of words.options) (behind (extras_of words))) before after ends.met ends.own bytes ends.ended.ends
     told no_read long)
@@ -44,6 +46,24 @@ returns-clause-told c = λ words told before after fault kept ends. ends
 
 pub returns-clause-drill_told : goal.returns-clause-drill_told
 returns-clause-drill_told c = λ count seed options told before after fault kept ends. ends
+
+pub returns-clause-tour_complete : goal.returns-clause-tour_complete
+returns-clause-tour_complete c = λ words before after fault kept bytes ends told no_read there short is no_write no_refusal.
+    fine_told why_of_cities fault ends.met ends.fault_is
+    (cities.accepted_fine before after ends.met ends.own bytes ends.ended.ends told no_read there short is no_write no_refusal)
+
+pub returns-clause-tour_refused : goal.returns-clause-tour_refused
+returns-clause-tour_refused c = λ words before after fault kept bytes ends told no_read line why short is.
+    either_told why_of_cities fault ends.met ends.fault_is (Some (runs.Input line why)) (Some runs.Memory)
+    (cities.refused_at_line before after ends.met ends.own bytes ends.ended.ends told no_read line why short is)
+
+pub returns-clause-tour_overlong : goal.returns-clause-tour_overlong
+returns-clause-tour_overlong c = λ words before after fault kept bytes ends told no_read long.
+    either_told why_of_cities fault ends.met ends.fault_is (Some (runs.TooLarge (input_limit + 1))) (Some runs.Memory)
+    (cities.overlong_told before after ends.met ends.own bytes ends.ended.ends told no_read long)
+
+pub returns-clause-tour_told : goal.returns-clause-tour_told
+returns-clause-tour_told c = λ words told before after fault kept ends. ends
 
 pub returns-clause-checked : goal.returns-clause-checked
 returns-clause-checked c = λ before after fault kept bytes ends told no_read config ledger short text no_write.
@@ -78,19 +98,19 @@ returns-clause-made c = λ count seed before after fault kept ends no_write. mad
 
 pub returns-clause-drilled : goal.returns-clause-drilled
 returns-clause-drilled c = λ count seed options before after fault kept ends few no_write no_refusal.
-    fine_told fault ends.met ends.fault_is
+    fine_told why_of fault ends.met ends.fault_is
     (drilled_fine count seed (settings_of options) (IsConfigOf options.sizes options.inline) options.inline before after ends.met ends.own
     ends.ended (c.made_laws.ensures.short count seed few)
     (c.made_is_accepted.ensures.accepted count seed) no_write no_refusal)
 
 pub returns-clause-in_line : goal.returns-clause-in_line
 returns-clause-in_line c = λ words before after fault kept bytes ends told on few fine.
-    either_told fault ends.met ends.fault_is None (Some runs.Memory)
+    either_told why_of fault ends.met ends.fault_is None (Some runs.Memory)
     (short_in_line (settings_of words.options) words.options.inline (IsReported (settings_of words.options) (behind (extras_of words)))
-    before after ends.met ends.own bytes ends.ended.ends told on few (fine_met fault ends.met ends.fault_is fine))
+    before after ends.met ends.own bytes ends.ended.ends told on few (fine_met why_of fault ends.met ends.fault_is fine))
 
 pub returns-clause-drilled_in_line : goal.returns-clause-drilled_in_line
 returns-clause-drilled_in_line c = λ count seed options before after fault kept ends on few fine.
-    either_told fault ends.met ends.fault_is None (Some runs.Memory)
+    either_told why_of fault ends.met ends.fault_is None (Some runs.Memory)
     (drilled_in_line count seed (settings_of options) (IsConfigOf options.sizes options.inline) options.inline before after ends.met
-    ends.own ends.ended on few (fine_met fault ends.met ends.fault_is fine))
+    ends.own ends.ended on few (fine_met why_of fault ends.met ends.fault_is fine))

@@ -3,7 +3,7 @@ use Rattle.std.specs.String.{string_bytes}
 use Rattle.command_words.specs.Said.{command_of}
 use Rattle.run_command.specs.Ends.{scene}
 use Rattle.adlb_command.proofs.Ending.{drilled_said, ends_checked, ends_drawn, ends_drilled, ends_made, ends_solved, ends_unread}
-use Rattle.adlb_command.proofs.Ending.{solved_said}
+use Rattle.adlb_command.proofs.Ending.{ends_toured, solved_said, toured_said}
 use Rattle.adlb_command.proofs.top.run_adlb.Goals as goal
 
 pub returns-in-Ok-Solve-clause-ends : goal.returns-in-Ok-Solve-clause-ends
@@ -79,6 +79,22 @@ returns-in-Ok-Drill-clause-ends g c =
     (drilled_said _ _ c.drill.result.fault c.drill.result.kept c.settings-in-Ok-Drill.result c.config-in-Ok-Drill.result
     c.in-Ok-Drill.count c.in-Ok-Drill.seed c.in-Ok-Drill.options c.settings-in-Ok-Drill.ensures c.config-in-Ok-Drill.ensures.numbers
     (c.drill.ensures.drills left reads))
+
+pub returns-in-Ok-Tour-clause-ends : goal.returns-in-Ok-Tour-clause-ends
+returns-in-Ok-Tour-clause-ends g c =
+    let said = command_of (map string_bytes c.args.words.now) in
+    ends_toured said
+    (scene (g.S.Source.left c.args.input.now) (g.S.Source.faults c.args.input.now) (g.K.Sink.taken c.args.output.now)
+    (g.K.Sink.faults c.args.output.now) (g.K.Sink.all_flushed c.args.output.now) (g.T.Spawner.faults c.args.threads.now)
+    (g.T.Spawner.starts c.args.threads.now))
+    (scene (g.S.Source.left c.tour.new.input) (g.S.Source.faults c.tour.new.input) (g.K.Sink.taken c.tour.new.output)
+    (g.K.Sink.faults c.tour.new.output) (g.K.Sink.all_flushed c.tour.new.output) (g.T.Spawner.faults c.tour.new.threads)
+    (g.T.Spawner.starts c.tour.new.threads))
+    c.of-in-Ok-Tour.result.fault c.of-in-Ok-Tour.result.kept c.in-Ok-Tour.words
+    (subst (λ x. said ≡ Some x) c.in-Ok-Tour.field-0-is c.in-Ok-Tour.ensures.said)
+    c.tour.result.fault c.tour.result.kept c.of-in-Ok-Tour.ensures.fault c.of-in-Ok-Tour.ensures.kept
+    (toured_said _ _ c.tour.result.fault c.tour.result.kept c.config-in-Ok-Tour.result c.in-Ok-Tour.words
+    c.config-in-Ok-Tour.ensures.numbers c.tour.ensures.finds)
 
 pub returns-in-Err-clause-ends : goal.returns-in-Err-clause-ends
 returns-in-Err-clause-ends g c =

@@ -1,0 +1,27 @@
+use Rattle.std.proofs.Common.{map, rules, subst, refl}
+use Rattle.std.specs.String.{string_bytes}
+use Rattle.clap.specs.Words.{App, found_of, rows_of}
+use Rattle.command_words.proofs.Holding.{sizes_hold}
+use Rattle.command_words.proofs.Saying.{found_says, refused_says_nothing}
+use Rattle.command_words.specs.inside.{IsFound}
+use Rattle.command_words.specs.Options.{tour_app}
+use Rattle.command_words.specs.Said.{tour_of}
+use Rattle.command_words.proofs.reading.read_tour.Goals as goal
+
+pub returns-in_err-matches-clause-refused : goal.returns-in_err-matches-clause-refused
+returns-in_err-matches-clause-refused c =
+    let none = refused_says_nothing tour_app _ tour_of (map string_bytes c.args.words.now) c.in_err-matches.field-0.0
+    c.in_ok-tour_command.ensures c.in_err-matches.ensures.refused in
+    search rules
+
+pub sizes_of-requires : goal.sizes_of-requires
+sizes_of-requires c =
+    record { holds = sizes_hold tour_app _ _ c.in_ok-matches.ensures.parsed c.in_ok-tour_command.ensures refl refl refl }
+
+pub returns-clause-said : goal.returns-clause-said
+returns-clause-said c =
+    let rows = rows_of (found_of c.in_ok-matches.matches) in
+    let words = map string_bytes c.args.words.now in
+    let found = subst (λ (a : App). IsFound a words rows) c.in_ok-tour_command.ensures c.in_ok-matches.ensures.found in
+    let said = found_says tour_app tour_of words rows found in
+    search rules
