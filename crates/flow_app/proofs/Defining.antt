@@ -20,7 +20,7 @@ use Rattle.flow_app.specs.declared.faults.FlowWhy.TheVariants.{Twice, Many}
 use Rattle.flow_app.specs.declared.reading.Reading.{Reading}
 use Rattle.flow_app.specs.Kinds.{defines}
 use Rattle.flow_app.specs.Reading.{define_fault, definition_limit}
-use Rattle.flow_app.specs.inside.Linked.{noted_number, number_of}
+use Rattle.flow_app.specs.Linked.{noted_number, number_of}
 use Rattle.flow_app.specs.inside.Read.{Extends, IsRead}
 use Rattle.flow_app.proofs.Cuts.{no_place}
 use Rattle.flow_app.proofs.Numbered.{number_here}

@@ -2,6 +2,7 @@ pub mod Cuts
 pub mod Numbered
 pub mod Storing
 pub mod Whole
+pub mod Finished
 pub mod Defining
 pub mod Linking
 pub mod Steps

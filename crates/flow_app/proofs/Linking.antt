@@ -13,7 +13,7 @@ use Rattle.flow_law.specs.declared.Definition.{Definition}
 use Rattle.flow_law.specs.declared.Definition.TheVariants.{Let, Rule}
 use Rattle.flow_app.specs.declared.links.Inputs.{Inputs}
 use Rattle.flow_app.specs.Reading.{definition_limit}
-use Rattle.flow_app.specs.inside.Linked.{IsLinked, are_below, asks, has, inputs_by, inputs_of, is_number, users_at}
+use Rattle.flow_app.specs.Linked.{IsLinked, are_below, asks, has, inputs_by, inputs_of, is_number, users_at}
 use Rattle.flow_app.specs.inside.Users.{AreInside, HasUsers, IsInside}
 use Rattle.flow_app.proofs.Numbered.{number_inside}
 

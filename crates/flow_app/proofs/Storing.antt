@@ -1,20 +1,19 @@
 -- What a store holds stays true as values come.
-use Rattle.std.proofs.Common.{◌≡◌, ◌≢◌, ◌<◌, ◌≤◌, ◌==◌, ◌+◌, ◌||◌, ◌&&◌, ◌⊎◌, inl, inr, ℕ, zero, suc, Bool, true, false, cond, not, List}
-use Rattle.std.proofs.Common.{[], ◌∷◌, ◌++◌, length, get_or, drop, drop-cons, count_by, Option, Some, None, refl, sym, ap, ◌∙◌, subst}
+use Rattle.std.proofs.Common.{◌≡◌, ◌≢◌, ◌<◌, ◌≤◌, ◌==◌, ◌+◌, ◌||◌, ◌&&◌, ◌⊎◌, inl, inr, ℕ, zero, suc, Bool, true, false, cond, List}
+use Rattle.std.proofs.Common.{[], ◌∷◌, ◌++◌, length, get_or, drop, drop-cons, take, Option, Some, None, refl, sym, ap, ◌∙◌, subst}
 use Rattle.std.proofs.Common.{arith}
 use Rattle.std.specs.Prelude.{is_none, is_some, nat_lt, slice_set}
 use Rattle.std.specs.List.{slice_get}
-use Rattle.std.proofs.lemmas.Bool.{and_parts, cases_eq, eq-eqb, eqb-true, lt-ltb, ltb-true}
+use Rattle.std.proofs.lemmas.Bool.{and_parts, cases_eq, cases_lt, eq-eqb, eqb-true, lt-ltb, ltb-true}
 use Rattle.std.proofs.lemmas.List.{get_or-set_same, get_or-set_other, length-append, length-set}
 use Rattle.std.proofs.lemmas.List.Folds.{list_all-append, list_any-append, list_any_at}
-use Rattle.std.proofs.lemmas.List.Sums.{sum_by-set}
-use Rattle.flow_law.specs.Flows.{HasValue, Name, gives, joined, name_of}
+use Rattle.flow_law.specs.Flows.{Name, gives, joined}
 use Rattle.flow_law.specs.declared.Definition.{Definition}
 use Rattle.flow_law.specs.declared.Definition.TheVariants.{Rule}
 use Rattle.flow_law.specs.declared.Op.{Op}
 use Rattle.flow_law.proofs.Turns.{IsMore, gives_more, some_of}
-use Rattle.flow_app.specs.inside.Linked.{are_below, asks, has, inputs_of, is_number, number_of}
-use Rattle.flow_app.specs.inside.Stored.{IsStored, is_noted, value_at, value_of, worth_in}
+use Rattle.flow_app.specs.Linked.{are_below, asks, has, inputs_of, is_number, number_of}
+use Rattle.flow_app.specs.Stored.{IsDone, IsLaid, first_stays, is_noted, value_at, value_of, worth_in}
 
 -- Values.
 
@@ -127,6 +126,27 @@ has_push_cases xs x i e = at (has xs i) refl (sym (list_any-append (λ y. y == i
       | inr not_there ↦ absurd (has_none i not_there)
     ]
 
+-- a number of two lists end to end is one of either
+pub has_append_cases : (xs ys : List ℕ) (i : ℕ) → has (xs ++ ys) i ≡ true → (has xs i ≡ true) ⊎ (has ys i ≡ true)
+has_append_cases xs ys i e = at (has xs i) refl (sym (list_any-append (λ y. y == i) xs ys) ∙ e)
+  where
+    at : (b : Bool) → has xs i ≡ b → (has xs i || has ys i) ≡ true → (has xs i ≡ true) ⊎ (has ys i ≡ true)
+    at true is e = inl is
+    at false is e = inr (ap (λ b. b || has ys i) (sym is) ∙ e)
+
+pub has_later : (xs ys : List ℕ) (i : ℕ) → has ys i ≡ true → has (xs ++ ys) i ≡ true
+has_later xs ys i e = list_any-append (λ x. x == i) xs ys ∙ at (has xs i) (has ys i) e
+  where
+    at : (b c : Bool) → c ≡ true → (b || c) ≡ true
+    at true c is = refl
+    at false c is = is
+
+-- what lies past the end is not set
+pub set_past : (values : List (Option ℕ)) (i : ℕ) (o : Option ℕ) → length values ≤ i → slice_set values i o ≡ values
+set_past [] i o past = refl
+set_past (x ∷ values) zero o past = absurd (omega (arith, past))
+set_past (x ∷ values) (suc i) o past = ap (λ (l : List (Option ℕ)). x ∷ l) (set_past values i o (omega (arith, past)))
+
 pub both : (b c : Bool) → b ≡ true → c ≡ true → (b && (c && true)) ≡ true
 both true true e f = refl
 both true false e f = absurd (cc)
@@ -142,47 +162,35 @@ below_at n (x ∷ xs) (suc i) d e inside = below_at n xs i d (and_parts (nat_lt 
 -- a value came; the rules that ask for it are to be noted
 pub value_came : (flow : List Definition) (values : List (Option ℕ)) (noted : List Bool) (ready : List ℕ) (next : ℕ) (users : List ℕ)
     (place v : ℕ) →
-    IsStored flow values noted ready next [] → place < length flow → value_at values place ≡ None →
-    ((d : Definition) → slice_get flow place ≡ Some d → HasValue flow (name_of d) v) →
+    IsLaid flow values noted ready next [] → place < length flow → value_at values place ≡ None →
     ((q : ℕ) (d : Definition) → slice_get flow q ≡ Some d → asks (inputs_of flow d) place ≡ true → has users q ≡ true) →
-    IsStored flow (slice_set values place (Some v)) noted ready next users
-value_came flow values noted ready next users place v s inside none right all = record {
+    IsLaid flow (slice_set values place (Some v)) noted ready next users
+value_came flow values noted ready next users place v s inside none asked_all = record {
   long = length-set values place (Some v) ∙ s.long;
   marks = s.marks;
   inside = s.inside;
   within = s.within;
-  sound = λ i d w at is. elim (value_was values place v i w (omega (arith, s.long, inside)) is) [
-    | inl here ↦
-        let there : slice_get flow place ≡ Some d = subst (λ k. slice_get flow k ≡ Some d) here.0 at in
-        subst (HasValue flow (name_of d)) (sym here.1) (right d there)
-    | inr was ↦ s.sound i d w at was
-  ];
   rules = λ i name op left r at some. elim (gives_was flow values place v name op left r some) [
     | inl was ↦ elim (s.rules i name op left r at was) [ inl noted ↦ inl noted | inr not_there ↦ absurd (has_none i not_there) ]
-    | inr asked ↦ inr (all i (Rule name op left r) at asked)
+    | inr asked ↦ inr (asked_all i (Rule name op left r) at asked)
   ];
   listed = s.listed;
+  all = s.all;
+  once = s.once;
   grounded = λ i d at noted. gives_stays flow values place v d none (s.grounded i d at noted);
-  done = λ i noted. elim (s.done i noted) [
-    | inl there ↦ inl there
-    | inr some ↦
-        let w = some_of (value_at values i) some in
-        inr (ap is_some (value_stays values place v i w.0 none w.1))
-  ];
 }
 
 -- a rule that is noted already, or whose inputs have no values, need not be noted
 pub need_not : (flow : List Definition) (values : List (Option ℕ)) (noted : List Bool) (ready : List ℕ) (next rule : ℕ) (rest : List ℕ) →
-    IsStored flow values noted ready next (rule ∷ rest) →
+    IsLaid flow values noted ready next (rule ∷ rest) →
     ((name : Name) (op : Op) (left right : Name) → slice_get flow rule ≡ Some (Rule name op left right) →
     is_some (gives (worth_in flow values) (Rule name op left right)) ≡ true → is_noted noted rule ≡ true) →
-    IsStored flow values noted ready next rest
+    IsLaid flow values noted ready next rest
 need_not flow values noted ready next rule rest s is_in = record {
   long = s.long;
   marks = s.marks;
   inside = s.inside;
   within = s.within;
-  sound = s.sound;
   rules = λ i name op left r at some. elim (s.rules i name op left r at some) [
     | inl noted ↦ inl noted
     | inr there ↦ elim (has_cases rule rest i there) [
@@ -194,8 +202,9 @@ need_not flow values noted ready next rule rest s is_in = record {
     ]
   ];
   listed = s.listed;
+  all = s.all;
+  once = s.once;
   grounded = s.grounded;
-  done = s.done;
 }
 
 -- a mark that is set
@@ -218,12 +227,23 @@ drop_push zero ready rule le = refl
 drop_push (suc next) [] rule le = absurd (omega (arith, le))
 drop_push (suc next) (x ∷ ready) rule le = drop_push next ready rule (omega (arith, le))
 
--- a rule is noted
+-- what stands in a list that grew by one, and what stands before it
+pushed_at : (xs : List ℕ) (x k i : ℕ) → slice_get (xs ++ x ∷ []) k ≡ Some i →
+    ((slice_get xs k ≡ Some i) × (take k (xs ++ x ∷ []) ≡ take k xs)) ⊎ ((x ≡ i) × (take k (xs ++ x ∷ []) ≡ xs))
+pushed_at [] x zero i at = let same : x ≡ i = cc in inr (same, refl)
+pushed_at [] x (suc k) i at = absurd (cc)
+pushed_at (y ∷ xs) x zero i at = inl (at, refl)
+pushed_at (y ∷ xs) x (suc k) i at = elim (pushed_at xs x k i at) [
+  | inl old ↦ inl (old.0, ap (λ (l : List ℕ). y ∷ l) old.1)
+  | inr new ↦ inr (new.0, ap (λ (l : List ℕ). y ∷ l) new.1)
+]
+
+-- a rule that was not noted is
 pub was_noted : (flow : List Definition) (values : List (Option ℕ)) (noted : List Bool) (ready : List ℕ) (next rule : ℕ) (rest : List ℕ) →
-    IsStored flow values noted ready next (rule ∷ rest) → rule < length flow →
+    IsLaid flow values noted ready next (rule ∷ rest) → rule < length flow → is_noted noted rule ≡ false →
     ((d : Definition) → slice_get flow rule ≡ Some d → is_some (gives (worth_in flow values) d) ≡ true) →
-    IsStored flow values (slice_set noted rule true) (ready ++ rule ∷ []) next rest
-was_noted flow values noted ready next rule rest s inside worthy =
+    IsLaid flow values (slice_set noted rule true) (ready ++ rule ∷ []) next rest
+was_noted flow values noted ready next rule rest s inside new worthy =
     let room : rule < length noted = omega (arith, s.marks, inside) in
     let here : is_noted (slice_set noted rule true) rule ≡ true = get_or-set_same noted rule true false room in
     record {
@@ -232,7 +252,6 @@ was_noted flow values noted ready next rule rest s inside worthy =
       inside = omega (arith, s.inside, length-append ready (rule ∷ []));
       within = list_all-append (λ x. nat_lt x (length flow)) ready (rule ∷ [])
           ∙ both (are_below (length flow) ready) (nat_lt rule (length flow)) s.within (lt-ltb rule (length flow) inside);
-      sound = s.sound;
       rules = λ i name op left r at some. elim (s.rules i name op left r at some) [
         | inl noted_i ↦ inl (mark_stays noted rule i room noted_i)
         | inr there ↦ elim (has_cases rule rest i there) [
@@ -244,71 +263,124 @@ was_noted flow values noted ready next rule rest s inside worthy =
         | inl was ↦ mark_stays noted rule i room (s.listed i was)
         | inr same ↦ subst (λ k. is_noted (slice_set noted rule true) k ≡ true) same here
       ];
+      all = λ i is. elim (mark_was noted rule i is) [
+        | inl same ↦ subst (λ k. has (ready ++ rule ∷ []) k ≡ true) (sym same) (has_push ready rule)
+        | inr was ↦ has_append ready (rule ∷ []) i (s.all i was)
+      ];
+      once = λ k i at. elim (pushed_at ready rule k i at) [
+        | inl old ↦ ap (λ l. has l i) old.1 ∙ s.once k i old.0
+        | inr last ↦ ap (λ l. has l i) last.1 ∙ subst (λ m. has ready m ≡ false) last.0 (fresh (has ready rule) refl)
+      ];
       grounded = λ i d at is. elim (mark_was noted rule i is) [
         | inl same ↦ worthy d (subst (λ k. slice_get flow k ≡ Some d) same at)
         | inr was ↦ s.grounded i d at was
       ];
-      done = λ i is. elim (mark_was noted rule i is) [
-        | inl same ↦ inl (subst (λ k. has (drop next (ready ++ rule ∷ [])) k ≡ true) (sym same)
-            (ap (λ l. has l rule) (drop_push next ready rule s.inside) ∙ has_push (drop next ready) rule))
-        | inr was ↦ elim (s.done i was) [
-          | inl there ↦ inl (ap (λ l. has l i) (drop_push next ready rule s.inside) ∙ has_append (drop next ready) (rule ∷ []) i there)
-          | inr some ↦ inr some
-        ]
-      ];
     }
+  where
+    fresh : (b : Bool) → has ready rule ≡ b → has ready rule ≡ false
+    fresh false is = is
+    fresh true is = absurd (let e : true ≡ false = sym (s.listed rule is) ∙ new in cc)
 
--- one rule less is not noted
-pub one_less : (noted : List Bool) (rule : ℕ) → rule < length noted → is_noted noted rule ≡ false →
-    count_by not (slice_set noted rule true) + 1 ≡ count_by not noted
-one_less noted rule inside isnt =
-    let one : cond {A = ℕ} (not (get_or noted rule false)) 1 0 ≡ 1 = ap (λ b. cond {A = ℕ} (not b) 1 0) isnt in
-    let sums = sum_by-set (λ b. cond {A = ℕ} (not b) 1 0) noted rule true false inside in
-    omega (arith, sums, one)
-
--- the rule that is taken is noted
+-- what is ready next is noted
 pub next_noted : (flow : List Definition) (values : List (Option ℕ)) (noted : List Bool) (ready : List ℕ) (next d : ℕ) (rest : List ℕ) →
-    IsStored flow values noted ready next rest → next < length ready → is_noted noted (get_or ready next d) ≡ true
+    IsLaid flow values noted ready next rest → next < length ready → is_noted noted (get_or ready next d) ≡ true
 next_noted flow values noted ready next d rest s more =
     s.listed (get_or ready next d) (list_any_at (λ x. x == get_or ready next d) ready next d more (same (get_or ready next d)))
   where
     same : (i : ℕ) → (i == i) ≡ true
     same i = eq-eqb i i refl
 
--- a rule that has a value was taken
-pub was_taken : (flow : List Definition) (values : List (Option ℕ)) (noted : List Bool) (ready : List ℕ) (next d : ℕ) →
-    IsStored flow values noted ready next [] → next < length ready → is_some (value_at values (get_or ready next d)) ≡ true →
-    IsStored flow values noted ready (next + 1) []
-was_taken flow values noted ready next d s more some = record {
+-- the next rule was taken
+pub was_taken : (flow : List Definition) (values : List (Option ℕ)) (noted : List Bool) (ready : List ℕ) (next : ℕ) (rest : List ℕ) →
+    IsLaid flow values noted ready next rest → next < length ready → IsLaid flow values noted ready (next + 1) rest
+was_taken flow values noted ready next rest s more = record {
   long = s.long;
   marks = s.marks;
   inside = omega (arith, more);
   within = s.within;
-  sound = s.sound;
   rules = s.rules;
   listed = s.listed;
+  all = s.all;
+  once = s.once;
   grounded = s.grounded;
-  done = λ i noted_i. elim (s.done i noted_i) [
-    | inl there ↦
-        let cut : drop next ready ≡ get_or ready next d ∷ drop (suc next) ready = drop-cons ready next d more in
-        let later : suc next ≡ next + 1 = omega arith in
-        elim (has_cases (get_or ready next d) (drop (suc next) ready) i (ap (λ l. has l i) (sym cut) ∙ there)) [
-          | inl same ↦ inr (subst (λ k. is_some (value_at values k) ≡ true) same some)
-          | inr rest ↦ inl (subst (λ k. has (drop k ready) i ≡ true) later rest)
-        ]
-    | inr had ↦ inr had
-  ];
 }
+
+-- a rule that has a value was taken
+pub taken_done : (values : List (Option ℕ)) (noted : List Bool) (ready : List ℕ) (next d : ℕ) →
+    IsDone values noted ready next → next < length ready → is_some (value_at values (get_or ready next d)) ≡ true →
+    IsDone values noted ready (next + 1)
+taken_done values noted ready next d done more some i noted_i = elim (done i noted_i) [
+  | inl there ↦
+      let cut : drop next ready ≡ get_or ready next d ∷ drop (suc next) ready = drop-cons ready next d more in
+      let later : suc next ≡ next + 1 = omega arith in
+      elim (has_cases (get_or ready next d) (drop (suc next) ready) i (ap (λ l. has l i) (sym cut) ∙ there)) [
+        | inl same ↦ inr (subst (λ k. is_some (value_at values k) ≡ true) same some)
+        | inr rest ↦ inl (subst (λ k. has (drop k ready) i ≡ true) later rest)
+      ]
+  | inr had ↦ inr had
+]
+
+-- what came to be noted since is still to be taken
+pub still_done : (flow : List Definition) (old new : List (Option ℕ)) (was noted : List Bool) (first last : List ℕ) (next : ℕ) →
+    IsLaid flow old was first next [] → IsLaid flow new noted last next [] → (more : List ℕ) → last ≡ first ++ more →
+    ((i w : ℕ) → value_at old i ≡ Some w → value_at new i ≡ Some w) → IsDone old was first next → IsDone new noted last next
+still_done flow old new was noted first last next s t more grown stays done i noted_i =
+    elim (has_append_cases first more i (ap (λ l. has l i) (sym grown) ∙ t.all i noted_i)) [
+      | inl before ↦ elim (done i (s.listed i before)) [
+        | inl there ↦ inl (ap (λ l. has l i) cut ∙ has_append (drop next first) more i there)
+        | inr some ↦ let w = some_of (value_at old i) some in inr (ap is_some (stays i w.0 w.1))
+      ]
+      | inr after ↦ inl (ap (λ l. has l i) cut ∙ has_later (drop next first) more i after)
+    ]
+  where
+    dropped : (n : ℕ) (xs ys : List ℕ) → n ≤ length xs → drop n (xs ++ ys) ≡ drop n xs ++ ys
+    dropped zero xs ys le = refl
+    dropped (suc n) [] ys le = absurd (omega (arith, le))
+    dropped (suc n) (x ∷ xs) ys le = dropped n xs ys (omega (arith, le))
+
+    cut : drop next last ≡ drop next first ++ more
+    cut = ap (drop next) grown ∙ dropped next first more s.inside
+
+-- the first value of a number that has one stays
+pub stays_there : (values : List (Option ℕ)) (i v j w : ℕ) → value_at values j ≡ Some w → value_at (first_stays values i v) j ≡ Some w
+stays_there values i v j w is = at (value_at values i) refl
+  where
+    at : (o : Option ℕ) → value_at values i ≡ o → value_at (cond (is_some o) values (slice_set values i (Some v))) j ≡ Some w
+    at (Some x) here = is
+    at None here = value_stays values i v j w here is
+
+-- what a number has then, it had, or it is the value that came, where none was
+pub came_there : (values : List (Option ℕ)) (i v j w : ℕ) → value_at (first_stays values i v) j ≡ Some w →
+    ((j ≡ i) × (w ≡ v) × (value_at values i ≡ None)) ⊎ (value_at values j ≡ Some w)
+came_there values i v j w is = at (value_at values i) refl is
+  where
+    at : (o : Option ℕ) → value_at values i ≡ o → value_at (cond (is_some o) values (slice_set values i (Some v))) j ≡ Some w →
+        ((j ≡ i) × (w ≡ v) × (value_at values i ≡ None)) ⊎ (value_at values j ≡ Some w)
+    at (Some x) here h = inr h
+    at None here h = elim (cases_lt i (length values)) [
+      | inl inside ↦ elim (value_was values i v j w inside h) [ inl new ↦ inl (new.0, new.1, here) | inr was ↦ inr was ]
+      | inr outside ↦ inr (ap (λ l. value_at l j) (sym (set_past values i (Some v) outside)) ∙ h)
+    ]
+
+-- the value that came is there, where none was
+pub came_here : (values : List (Option ℕ)) (i v : ℕ) → i < length values → value_at values i ≡ None →
+    value_at (first_stays values i v) i ≡ Some v
+came_here values i v inside none =
+    ap (λ o. value_at (cond (is_some o) values (slice_set values i (Some v))) i) none ∙ get_or-set_same values i (Some v) None inside
 
 -- the next of the rules that are to be noted
 pub rest_next : (flow : List Definition) (values : List (Option ℕ)) (noted : List Bool) (ready : List ℕ) (next : ℕ)
     (items : List ℕ) (k : ℕ) →
-    k < length items → IsStored flow values noted ready next (drop k items) →
-    IsStored flow values noted ready next (get_or items k 0 ∷ drop (k + 1) items)
+    k < length items → IsLaid flow values noted ready next (drop k items) →
+    IsLaid flow values noted ready next (get_or items k 0 ∷ drop (k + 1) items)
 rest_next flow values noted ready next items k inside s =
     let later : suc k ≡ k + 1 = omega arith in
-    subst (IsStored flow values noted ready next) (drop-cons items k 0 inside ∙ ap (λ n. get_or items k 0 ∷ drop n items) later) s
+    subst (IsLaid flow values noted ready next) (drop-cons items k 0 inside ∙ ap (λ n. get_or items k 0 ∷ drop n items) later) s
 
 pub not_both : (o : Option ℕ) → is_some o ≡ true → is_none o ≡ true → ⊥
 not_both None has none = cc
 not_both (Some v) has none = cc
+
+pub some_if : (o : Option ℕ) → is_none o ≡ false → is_some o ≡ true
+some_if None e = absurd (cc)
+some_if (Some v) e = refl

@@ -8,7 +8,7 @@ use Rattle.std.proofs.lemmas.List.Sums.{sum_by-cons}
 use Rattle.std.proofs.lemmas.Option.{get_or_from_slice_get, slice_get_within}
 use Rattle.flow_law.specs.Flows.{Name, done_in, flow_text, line_of, name_of, value, waits_in}
 use Rattle.flow_law.specs.declared.Definition.{Definition}
-use Rattle.flow_app.specs.inside.Stored.{value_at}
+use Rattle.flow_app.specs.Stored.{value_at}
 use Rattle.flow_app.specs.inside.Told.{ends_with, line_with}
 
 lines_more : (f : Definition → List ℕ) (ds : List Definition) (i : ℕ) (d : Definition) → i < length ds →

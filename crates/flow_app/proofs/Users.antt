@@ -6,7 +6,7 @@ use Rattle.std.specs.Global.{Vec}
 use Rattle.std.proofs.lemmas.Bool.{cases_eq, eqb-true, lt-ltb}
 use Rattle.std.proofs.lemmas.List.Folds.{list_all-append}
 use Rattle.std.proofs.lemmas.Option.{slice_get-get_or}
-use Rattle.flow_app.specs.inside.Linked.{are_below, has, is_number, items_of, users_at}
+use Rattle.flow_app.specs.Linked.{are_below, has, is_number, items_of, users_at}
 use Rattle.flow_app.proofs.Storing.{both, has_append, has_push}
 
 same_at : (users : List (Vec ℕ)) (n : ℕ) (v : Vec ℕ) → n < length users → users_at (slice_set users n v) n ≡ v.items

@@ -1,16 +1,17 @@
 -- What a definition gives, as the store works it.
 use Rattle.std.proofs.Common.{◌≡◌, ◌<◌, ◌≤◌, ◌+◌, ℕ, zero, suc, Bool, true, false, List, [], ◌∷◌, ◌++◌, length, get_or, Option, Some, None}
-use Rattle.std.proofs.Common.{Contains, refl, sym, ap, ◌∙◌, subst, arith, append-nil, append_assoc}
+use Rattle.std.proofs.Common.{refl, sym, ap, ◌∙◌, subst, arith, append-nil, append_assoc}
 use Rattle.std.specs.Prelude.{is_some, slice_set}
 use Rattle.std.specs.List.{slice_get}
 use Rattle.std.proofs.lemmas.List.{length-append}
-use Rattle.flow_law.specs.Flows.{HasValue, gives, given, name_of}
+use Rattle.flow_law.specs.Flows.{HasValue, gives, name_of}
 use Rattle.flow_law.specs.declared.Definition.{Definition}
 use Rattle.flow_law.specs.declared.Definition.TheVariants.{Let, Rule}
 use Rattle.flow_law.proofs.Turns.{gives_has}
 use Rattle.flow_app.specs.declared.links.Inputs.{Inputs}
-use Rattle.flow_app.specs.inside.Linked.{inputs_of}
-use Rattle.flow_app.specs.inside.Stored.{Grows, HasLetsTo, IsStored, given_by, is_noted, own_value, value_at, worth_in}
+use Rattle.flow_app.specs.Linked.{inputs_of}
+use Rattle.flow_app.specs.Stored.{Grows, HasLetsTo, IsLaid, IsSound, given_by, is_noted, own_value, ready_by, ready_from, value_at}
+use Rattle.flow_app.specs.Stored.{worth_in}
 use Rattle.flow_app.specs.inside.Users.{IsInside}
 use Rattle.flow_app.proofs.Lets.{let_stored, rule_passed}
 use Rattle.flow_app.proofs.Linking.{inside_of}
@@ -38,17 +39,18 @@ pub inside_is : (flow : List Definition) (n place : ℕ) (e : Definition) (asked
 inside_is flow n place e asked long there is =
     subst (λ m. IsInside m asked) (sym long) (subst (IsInside (length flow)) (sym (is e there)) (inside_of flow e))
 
--- the value of a `let` is one of its name
-pub let_right : (flow : List Definition) (place : ℕ) (e : Definition) (v : ℕ) → slice_get flow place ≡ Some e → own_value e ≡ Some v →
-    (d : Definition) → slice_get flow place ≡ Some d → HasValue flow (name_of d) v
-let_right flow place e v there own d at =
-    subst (λ x. HasValue flow (name_of x) v) (same_definition flow place d e there at) (by_case e there own)
-  where
-    by_case : (x : Definition) → slice_get flow place ≡ Some x → own_value x ≡ Some v → HasValue flow (name_of x) v
-    by_case (Let name w) there own =
-        let same : w ≡ v = cc in
-        given name v (subst (λ z. let c : Definition = Let name z in Contains flow c) same (there_at flow place (Let name w) there))
-    by_case (Rule name op left right) there own = absurd (cc)
+ready_by_inputs : (flow : List Definition) (values : List (Option ℕ)) (d : Definition) →
+    ready_from values (inputs_of flow d) d ≡ ready_by (worth_in flow values) d
+ready_by_inputs flow values (Let name v) = refl
+ready_by_inputs flow values (Rule name op left right) = refl
+
+pub ready_is : (flow : List Definition) (values : List (Option ℕ)) (place : ℕ) (e : Definition) (asked : Inputs)
+    → slice_get flow place ≡ Some e →
+    ((d : Definition) → slice_get flow place ≡ Some d → asked ≡ inputs_of flow d) → (d : Definition) → slice_get flow place ≡ Some d →
+    ready_from values asked e ≡ ready_by (worth_in flow values) d
+ready_is flow values place e asked there is d at =
+    ap (ready_from values asked) (same_definition flow place d e there at) ∙ ap (λ a. ready_from values a d) (is d at)
+    ∙ ready_by_inputs flow values d
 
 pub lets_after : (flow : List Definition) (values new : List (Option ℕ)) (place : ℕ) (e : Definition) (v : ℕ)
     → HasLetsTo flow values place →
@@ -72,16 +74,15 @@ none_yet flow values place (Let name w) v lets there own = lets.fresh place name
 none_yet flow values place (Rule name op left right) v lets there own = absurd (cc)
 
 -- what a definition gives by the store's values is a value of its name
-pub given_right : (flow : List Definition) (values : List (Option ℕ)) (noted : List Bool) (ready : List ℕ) (next place v : ℕ) →
-    IsStored flow values noted ready next []
+pub given_right : (flow : List Definition) (values : List (Option ℕ)) (place v : ℕ) → IsSound flow values
     → ((d : Definition) → slice_get flow place ≡ Some d → Some v ≡ gives (worth_in flow values) d) →
     (d : Definition) → slice_get flow place ≡ Some d → HasValue flow (name_of d) v
-given_right flow values noted ready next place v s is d at =
-    gives_has flow (worth_in flow values) (worth_has flow values noted ready next s) d v (there_at flow place d at) (sym (is d at))
+given_right flow values place v sound is d at =
+    gives_has flow (worth_in flow values) (worth_has flow values sound) d v (there_at flow place d at) (sym (is d at))
 
 -- what is noted gives something
 pub noted_gives : (flow : List Definition) (values : List (Option ℕ)) (noted : List Bool) (ready : List ℕ) (next place : ℕ) →
-    IsStored flow values noted ready next [] → place < length flow → is_noted noted place ≡ true →
+    IsLaid flow values noted ready next [] → place < length flow → is_noted noted place ≡ true →
     ((d : Definition) → slice_get flow place ≡ Some d → None ≡ gives (worth_in flow values) d) → ⊥
 noted_gives flow values noted ready next place s inside is_in none =
     let d = definition_at flow place inside in

@@ -1,7 +1,5 @@
--- For the crate itself: what is left to read and what was read, how definitions are linked, and what a store holds.
+-- For the crate itself: what is left to read and what was read, and what the output is made of.
 pub mod Left
-pub mod Linked
 pub mod Read
-pub mod Stored
 pub mod Told
 pub mod Users

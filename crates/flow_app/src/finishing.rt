@@ -3,7 +3,7 @@
 ghost use Rattle.std.specs.Prelude.{◌≡◌, ℕ, All, IfOk, OnOk};
 ghost use Rattle.flow_law.specs.Flows.{flow_text};
 ghost use Rattle.flow_app.specs.Finishing.{AreValues, IsItsValue};
-ghost use Rattle.flow_app.specs.inside.Stored.{IsWhole};
+ghost use Rattle.flow_app.specs.Stored.{IsWhole};
 
 use crate::flows::Flow;
 use crate::stores::Store;
@@ -27,12 +27,19 @@ pub fn finish_flow(
     requires { AreValues flow.now outcomes.now }
     ensures { IfOk result (λ text. text.items ≡ flow_text flow.now) }
 {
-    let mut store = Store::new(alloc, flow)?;
+    let mut store = start(alloc, flow)?;
     for outcome in outcomes {
         keep_all(&mut store, flow, outcome.values.as_slice())?;
     }
     store.work_all(flow)?;
     text_of(alloc, flow, &store)
+}
+
+// The store of a flow at first. Its only error is `NoMemory`.
+fn start(alloc: Global, flow: &Flow) -> Result<Store, NoMemory>
+    ensures { IfOk result (λ store. IsWhole flow.now store) }
+{
+    Store::new(alloc, flow)
 }
 
 // Stores these values. Its only error is `NoMemory`.
@@ -43,7 +50,16 @@ fn keep_all(store: &mut Store, flow: &Flow, values: &[(u32, u64)]) -> Result<(),
 {
     for answer in values {
         let (number, value) = *answer;
-        store.keep(flow, number, value)?;
+        keep(store, flow, number, value)?;
     }
     Ok(())
+}
+
+// Stores the value of a rule. A number that is no rule's is ignored. Its only error is `NoMemory`.
+fn keep(store: &mut Store, flow: &Flow, number: u32, value: u64) -> Result<(), NoMemory>
+    requires stored { IsWhole flow.now store.old }
+    requires right { IsItsValue flow.now (number, value) }
+    ensures { OnOk result (IsWhole flow.now store.new) }
+{
+    store.keep(flow, number, value)
 }

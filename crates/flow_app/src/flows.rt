@@ -4,7 +4,7 @@ ghost use Rattle.std.specs.Prelude.{◌≡◌, ◌<◌, ◌≤◌, ◌^◌, ℕ,
 ghost use Rattle.flow_law.specs.Flows.{AreDistinct, Name};
 ghost use Rattle.flow_law.specs.declared.Definition.{Definition as Defined};
 ghost use Rattle.flow_app.specs.Reading.{definition_limit, flow_refused, input_flow};
-ghost use Rattle.flow_app.specs.inside.Linked.{are_below, asks, has, inputs_by, inputs_of, noted_number, number_of};
+ghost use Rattle.flow_app.specs.Linked.{are_below, asks, has, inputs_by, inputs_of, noted_number, number_of};
 ghost use Rattle.flow_app.specs.inside.Users.{AreInside, HasUsers};
 
 use crate::faults::{FlowFault, FlowWhy};
@@ -28,7 +28,7 @@ pub struct Flow {
 impl Model for Flow {
     ghost use Rattle.std.specs.Prelude.{List};
     ghost use Rattle.flow_law.specs.declared.Definition.{Definition};
-    ghost use Rattle.flow_app.specs.inside.Linked.{IsLinked};
+    ghost use Rattle.flow_app.specs.Linked.{IsLinked};
 
     ghost Value = { List Definition };
 

@@ -2,7 +2,7 @@
 
 ghost use Rattle.std.specs.Prelude.{◌≡◌, ◌<◌, ◌≤◌, ◌^◌, ℕ, List, [], Some, None, true, length, IfOk, OnOk, if◌then◌else◌};
 ghost use Rattle.std.specs.Str.{bytes_eq};
-ghost use Rattle.flow_app.specs.inside.Linked.{are_below, has, inputs_by, is_number, noted_number, users_at};
+ghost use Rattle.flow_app.specs.Linked.{are_below, has, inputs_by, is_number, noted_number, users_at};
 
 use adlb_unit::{NoMemory, or_no_memory};
 use flow_law::{Definition, Name};

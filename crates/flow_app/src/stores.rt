@@ -1,11 +1,10 @@
 //! The values of a flow while they come together.
 
 ghost use Rattle.std.specs.Prelude.{◌≡◌, ◌+◌, ◌<◌, ◌∷◌, [], ℕ, List, length, count_by, slice_get, slice_set, is_some, Some, None, true, false, IfOk, OnOk};
-ghost use Rattle.flow_law.specs.Flows.{HasValue, gives, joined, name_of};
+ghost use Rattle.flow_law.specs.Flows.{apply as applied, gives, joined};
 ghost use Rattle.flow_law.specs.declared.Definition.{Definition as Defined};
-ghost use Rattle.flow_app.specs.Finishing.{IsItsValue};
 ghost use Rattle.flow_app.specs.inside.Users.{IsInside};
-ghost use Rattle.flow_app.specs.inside.Stored.{Grows, HasLetsTo, IsDrained, IsWhole, Stores, given_by, is_noted, own_value as own, to_take, value_at, value_of, worth_in};
+ghost use Rattle.flow_app.specs.Stored.{AreLetsAlone, Grows, HasLetsTo, IsDrained, IsLaidOut, IsWhole, Lays, first_stays, given_by, is_noted, made_ready, own_value as own, ready_by, ready_from, to_take, value_at, value_of, worth_in};
 
 use crate::flows::Flow;
 use crate::links::Inputs;
@@ -13,10 +12,27 @@ use adlb_unit::{NoMemory, or_no_memory};
 use flow_law::{Definition, Op};
 use std::alloc::Global;
 
+/// What a rule does, and the values of its inputs.
+#[derive(Clone, Copy, Drop)]
+pub struct ReadyRule {
+    pub op: Op,
+    pub left: u64,
+    pub right: u64,
+}
+
+impl ReadyRule {
+    /// The value of the rule.
+    pub fn value(&self) -> u64
+        ensures { result ≡ applied self.now.op self.now.left self.now.right }
+    {
+        self.op.apply(self.left, self.right)
+    }
+}
+
 /// The values that are known, which rules are noted since their inputs have values, and these rules in the order in which
 /// they were noted: those before `next` were taken.
 #[derive(Drop)]
-pub(crate) struct Store {
+pub struct Store {
     values: Vec<Option<u64>>,
     noted: Vec<bool>,
     ready: Vec<u32>,
@@ -24,9 +40,12 @@ pub(crate) struct Store {
 }
 
 impl Store {
-    /// The store of a flow at first: it has the value of each `let`. Its only error is `NoMemory`.
-    pub(crate) fn new(alloc: Global, flow: &Flow) -> Result<Store, NoMemory>
-        ensures stored { IfOk result (λ store. IsWhole flow.now store) }
+    /// The store of a flow at first: it has the value of each `let`, and no other, and no rule was taken. Its only error is
+    /// `NoMemory`.
+    pub fn new(alloc: Global, flow: &Flow) -> Result<Store, NoMemory>
+        ensures out { IfOk result (λ store. IsLaidOut flow.now store) }
+        ensures alone { IfOk result (λ store. AreLetsAlone flow.now store.values.items) }
+        ensures first { IfOk result (λ store. store.next ≡ 0) }
     {
         let mut store = Store::empty(alloc, flow.as_slice().len())?;
         for place in 0..flow.as_slice().len() {
@@ -37,11 +56,12 @@ impl Store {
 
     // Stores the value of a definition that is a `let`. Its only error is `NoMemory`.
     fn start(&mut self, flow: &Flow, place: usize) -> Result<(), NoMemory>
-        requires stored { Stores flow.now self.old [] }
+        requires laid { Lays flow.now self.old [] }
         requires lets { HasLetsTo flow.now self.old.values.items place }
         requires inside { place < length flow.now }
-        ensures stored { OnOk result (Stores flow.now self.new []) }
+        ensures laid { OnOk result (Lays flow.now self.new []) }
         ensures lets { OnOk result (HasLetsTo flow.now self.new.values.items (place + 1)) }
+        ensures next { OnOk result (self.new.next ≡ self.old.next) }
     {
         if let Some(value) = own_value(flow.definition(place)) {
             self.settle(flow, place, value)?;
@@ -65,7 +85,7 @@ impl Store {
     }
 
     /// The value of a number.
-    pub(crate) fn value(&self, place: usize) -> Option<u64>
+    pub fn value(&self, place: usize) -> Option<u64>
         requires { place < length self.now.values.items }
         ensures { result ≡ value_at self.now.values.items place }
     {
@@ -90,8 +110,45 @@ impl Store {
         }
     }
 
-    /// What a definition gives by the values that are known.
-    pub(crate) fn worth(&self, flow: &Flow, place: usize) -> Option<u64>
+    /// The next rule that is noted and was not taken, if there is one.
+    pub fn next(&self) -> Option<u32>
+        ensures { result ≡ slice_get self.now.ready.items self.now.next }
+    {
+        self.ready.get(self.next).copied()
+    }
+
+    /// Takes the next rule.
+    pub fn pass(&mut self)
+        requires more { self.old.next < length self.old.ready.items }
+        ensures { self.new ≡ record self.old { next = self.old.next + 1 } }
+    {
+        self.next += 1;
+    }
+
+    /// The rule of a number with the values of its inputs, if it is a rule's and both have values.
+    pub fn rule(&self, flow: &Flow, place: usize) -> Option<ReadyRule>
+        requires inside { place < length flow.now }
+        requires long { length self.now.values.items ≡ length flow.now }
+        ensures { (d : Defined) → slice_get flow.now place ≡ Some d → result ≡ ready_by (worth_in flow.now self.now.values.items) d }
+    {
+        self.ready_rule(flow.definition(place), flow.inputs(place))
+    }
+
+    // A definition whose inputs have these numbers, if it is a rule and both have values.
+    fn ready_rule(&self, definition: &Definition, asked: Inputs) -> Option<ReadyRule>
+        requires { IsInside (length self.now.values.items) asked }
+        ensures { result ≡ ready_from self.now.values.items asked definition.now }
+    {
+        match definition {
+            Definition::Let { .. } => None,
+            Definition::Rule { op, .. } => {
+                made(*op, self.input(asked.left), self.input(asked.right))
+            }
+        }
+    }
+
+    // What a definition gives by the values that are known.
+    fn worth(&self, flow: &Flow, place: usize) -> Option<u64>
         requires inside { place < length flow.now }
         requires long { length self.now.values.items ≡ length flow.now }
         ensures { (d : Defined) → slice_get flow.now place ≡ Some d → result ≡ gives (worth_in flow.now self.now.values.items) d }
@@ -114,9 +171,9 @@ impl Store {
 
     // Notes a rule if its inputs have values. Its only error is `NoMemory`.
     fn note(&mut self, flow: &Flow, rule: u32) -> Result<(), NoMemory>
-        requires stored { (rest : List ℕ) × Stores flow.now self.old (rule ∷ rest) }
+        requires laid { (rest : List ℕ) × Lays flow.now self.old (rule ∷ rest) }
         requires inside { rule < length flow.now }
-        ensures stored { OnOk result ((rest : List ℕ) → Stores flow.now self.old (rule ∷ rest) → Stores flow.now self.new rest) }
+        ensures laid { OnOk result ((rest : List ℕ) → Lays flow.now self.old (rule ∷ rest) → Lays flow.now self.new rest) }
         ensures values { OnOk result (self.new.values.items ≡ self.old.values.items) }
         ensures left { OnOk result (to_take self.new ≡ to_take self.old) }
         ensures next { OnOk result (self.new.next ≡ self.old.next) }
@@ -136,11 +193,10 @@ impl Store {
 
     // Stores the value of a number that has none yet, and notes the rules that become ready. Its only error is `NoMemory`.
     fn settle(&mut self, flow: &Flow, place: usize, value: u64) -> Result<(), NoMemory>
-        requires stored { Stores flow.now self.old [] }
+        requires laid { Lays flow.now self.old [] }
         requires inside { place < length flow.now }
         requires none { value_at self.old.values.items place ≡ None }
-        requires right { (d : Defined) → slice_get flow.now place ≡ Some d → HasValue flow.now (name_of d) value }
-        ensures stored { OnOk result (Stores flow.now self.new []) }
+        ensures laid { OnOk result (Lays flow.now self.new []) }
         ensures values { OnOk result (self.new.values.items ≡ slice_set self.old.values.items place (Some value)) }
         ensures left { OnOk result (to_take self.new ≡ to_take self.old) }
         ensures next { OnOk result (self.new.next ≡ self.old.next) }
@@ -153,14 +209,21 @@ impl Store {
         Ok(())
     }
 
-    /// Stores the value of a rule, unless it has one. A number that is no rule's is ignored. Its only error is `NoMemory`.
-    pub(crate) fn keep(&mut self, flow: &Flow, number: u32, value: u64) -> Result<(), NoMemory>
-        requires stored { IsWhole flow.now self.old }
-        requires right { IsItsValue flow.now (number, value) }
-        ensures stored { OnOk result (IsWhole flow.now self.new) }
+    /// Stores the value of a number, unless it has one (`first_stays`). A number of no definition is ignored. Its only error is
+    /// `NoMemory`.
+    pub fn keep(&mut self, flow: &Flow, number: u32, value: u64) -> Result<(), NoMemory>
+        requires out { IsLaidOut flow.now self.old }
+        ensures out { OnOk result (IsLaidOut flow.now self.new) }
+        ensures values { OnOk result (self.new.values.items ≡ first_stays self.old.values.items number value) }
+        ensures left { OnOk result (to_take self.new ≡ to_take self.old) }
+        ensures next { OnOk result (self.new.next ≡ self.old.next) }
+        ensures grows { OnOk result (Grows self.old.ready.items self.new.ready.items) }
     {
         let place = number as usize;
-        if place >= self.values.len() || self.values[place].is_some() {
+        if place >= self.values.len() {
+            return Ok(());
+        }
+        if self.values[place].is_some() {
             return Ok(());
         }
         self.settle(flow, place, value)
@@ -224,6 +287,19 @@ fn own_value(definition: &Definition) -> Option<u64>
     match definition {
         Definition::Let { value, .. } => Some(*value),
         Definition::Rule { .. } => None,
+    }
+}
+
+// A rule with the values of its inputs, if both have values.
+fn made(op: Op, left: Option<u64>, right: Option<u64>) -> Option<ReadyRule>
+    ensures { result ≡ made_ready op left right }
+{
+    match left {
+        None => None,
+        Some(left) => match right {
+            None => None,
+            Some(right) => Some(ReadyRule { op, left, right }),
+        },
     }
 }
 

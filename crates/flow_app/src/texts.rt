@@ -3,7 +3,7 @@
 ghost use Rattle.std.specs.Prelude.{◌≡◌, ◌≤◌, ◌++◌, ℕ, length, decimal, codes, Some, IfOk, OnOk};
 ghost use Rattle.flow_law.specs.Flows.{Name, flow_text, told};
 ghost use Rattle.flow_app.specs.Reading.{definition_limit};
-ghost use Rattle.flow_app.specs.inside.Stored.{IsDrained, IsWhole};
+ghost use Rattle.flow_app.specs.Stored.{IsDrained, IsWhole};
 ghost use Rattle.flow_app.specs.inside.Told.{ends_with, line_with};
 
 use crate::flows::Flow;

@@ -4,7 +4,7 @@ use Rattle.flow_law.specs.Flows.{AreDistinct, Name}
 use Rattle.flow_app.specs.declared.reading.Reading.{Reading}
 use Rattle.flow_app.specs.Kinds.{Kind}
 use Rattle.flow_app.specs.Reading.{defined, definition_limit, fault_of}
-use Rattle.flow_app.specs.inside.Linked.{noted_number, number_of}
+use Rattle.flow_app.specs.Linked.{noted_number, number_of}
 
 -- the definitions are of distinct names, and the number of each name is noted
 pub record IsRead (r : Reading) : Type 0 where

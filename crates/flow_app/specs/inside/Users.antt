@@ -2,7 +2,7 @@
 use Rattle.std.specs.Prelude.{◌≡◌, ◌<◌, ℕ, true, List, Some, All, length, slice_get}
 use Rattle.std.specs.Global.{Vec}
 use Rattle.flow_app.specs.declared.links.Inputs.{Inputs}
-use Rattle.flow_app.specs.inside.Linked.{are_below, asks, has, users_at}
+use Rattle.flow_app.specs.Linked.{are_below, asks, has, users_at}
 
 -- each input that is defined has a number below this one
 pub record IsInside (n : ℕ) (asked : Inputs) : Type 0 where

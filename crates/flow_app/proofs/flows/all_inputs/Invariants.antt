@@ -1,5 +1,5 @@
 use Rattle.std.proofs.Common.{◌≡◌, map, take}
-use Rattle.flow_app.specs.inside.Linked.{inputs_by, noted_number}
+use Rattle.flow_app.specs.Linked.{inputs_by, noted_number}
 use Rattle.flow_app.proofs.flows.all_inputs.Given as goal
 
 abbrev pub invariant-loop-definition : goal.invariant-loop-definition

@@ -1,5 +1,5 @@
 use Rattle.std.proofs.Common.{◌≡◌, ◌≤◌, ◌-◌, ℕ, [], length}
-use Rattle.flow_app.specs.inside.Linked.{users_at}
+use Rattle.flow_app.specs.Linked.{users_at}
 use Rattle.flow_app.proofs.links.no_users.Given as goal
 
 abbrev pub invariant-lists : goal.invariant-lists

@@ -1,5 +1,5 @@
 use Rattle.std.proofs.Common.{◌∙◌, ap, sym, ◌++◌, ◌∷◌, [], ◌<◌, length, List, ℕ}
-use Rattle.flow_app.specs.inside.Linked.{is_number}
+use Rattle.flow_app.specs.Linked.{is_number}
 use Rattle.flow_app.proofs.Users.{all_below, others_noted, rule_noted, users_read}
 use Rattle.flow_app.proofs.links.note_user.Goals as goal
 

@@ -15,8 +15,9 @@ loop-place-preserved c =
     ∙ line_more c.args.flow.now c.loop-place.text.items c.loop-place.place c.definition-item.result c.bytes.result.now c.value.result there
     (c.bytes.ensures ∙ c.name.ensures)
     (c.value.ensures
-    ∙ value_is c.args.flow.now c.args.store.now.values.items c.args.store.now.noted.items c.args.store.now.ready.items c.args.store.now.next
-    c.requires.stored.stored c.as_slice-definition-items.ensures.distinct c.requires.stored.lets c.requires.drained c.loop-place.place
+    ∙ value_is c.args.flow.now c.args.store.now.values.items c.requires.stored.sound c.args.store.now.noted.items
+    c.args.store.now.ready.items c.args.store.now.next c.requires.stored.out.laid c.requires.stored.done
+    c.requires.stored.out.distinct c.requires.stored.out.lets c.requires.drained c.loop-place.place
     c.definition-item.result there)
     c.loop-place.invariant
 
@@ -25,9 +26,10 @@ returns c =
     let past : length c.args.flow.now ≤ c.loop-place.place =
     omega (arith, ap length c.as_slice-definition-items.ensures.definitions, c.loop-place-test.false) in
     c.in_ok-append_end.ensures
-    ∙ text_is c.args.flow.now c.args.store.now.values.items c.requires.stored.stored.long
-    (value_is c.args.flow.now c.args.store.now.values.items c.args.store.now.noted.items c.args.store.now.ready.items c.args.store.now.next
-    c.requires.stored.stored c.as_slice-definition-items.ensures.distinct c.requires.stored.lets c.requires.drained)
+    ∙ text_is c.args.flow.now c.args.store.now.values.items c.requires.stored.out.laid.long
+    (value_is c.args.flow.now c.args.store.now.values.items c.requires.stored.sound c.args.store.now.noted.items
+    c.args.store.now.ready.items c.args.store.now.next c.requires.stored.out.laid c.requires.stored.done
+    c.requires.stored.out.distinct c.requires.stored.out.lets c.requires.drained)
     c.loop-place.text.items c.loop-place.place c.count-done.result (length c.as_slice.result.now - c.count-done.result) past
     c.loop-place.invariant
     c.count-done.ensures (ap (λ l. length l - c.count-done.result) c.as_slice.ensures.definitions)

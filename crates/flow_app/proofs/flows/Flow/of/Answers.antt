@@ -1,6 +1,6 @@
 use Rattle.std.proofs.Common.{◌≡◌, ◌∙◌, ap, sym, subst, map, List, length}
 use Rattle.flow_law.specs.declared.Definition.{Definition}
-use Rattle.flow_app.specs.inside.Linked.{IsLinked, inputs_by, inputs_of, noted_number, number_of}
+use Rattle.flow_app.specs.Linked.{IsLinked, inputs_by, inputs_of, noted_number, number_of}
 use Rattle.flow_app.specs.inside.Users.{HasUsers}
 use Rattle.flow_app.specs.declared.links.Inputs.{Inputs}
 use Rattle.flow_app.proofs.Linking.{all_inputs_same, are_inside, linked}

@@ -1,10 +1,10 @@
 use Rattle.std.proofs.Common.{◌≡◌, drop}
-use Rattle.flow_app.specs.inside.Stored.{Grows, Stores, to_take}
+use Rattle.flow_app.specs.Stored.{Grows, Lays, to_take}
 use Rattle.flow_app.proofs.stores.Store.settle.Given as goal
 
 abbrev pub invariant-loop-rule : goal.invariant-loop-rule
 invariant-loop-rule l = record {
-  stored : Stores l.flow l.self (drop l.rule-index l.rule-items);
+  laid : Lays l.flow l.self (drop l.rule-index l.rule-items);
   values : l.self.values.items ≡ l.initial.self.values.items;
   left : to_take l.self ≡ to_take l.initial.self;
   next : l.self.next ≡ l.initial.self.next;

@@ -1,4 +1,4 @@
-use Rattle.flow_app.specs.inside.Stored.{IsWhole, to_take}
+use Rattle.flow_app.specs.Stored.{IsWhole, to_take}
 use Rattle.flow_app.proofs.stores.Store.work_all.Given as goal
 
 abbrev pub invariant-rules : goal.invariant-rules

@@ -1,0 +1,5 @@
+pub mod Calls
+pub mod Follows
+pub mod Pieces
+pub mod Stocks
+pub mod Working
