@@ -31,19 +31,19 @@ module _ (before after : Scene) (fault : Option (Fault FlowWhy)) (kept : Option 
     pub accepted_fine : length bytes ≤ input_limit → flow_refused bytes ≡ None → (Rises before.writes after.writes → ⊥) →
         (Rises before.refused after.refused → ⊥) → IsFine fault
     accepted_fine short is no_write no_refusal =
-        ends.asked_fine HasFlow RefusesLine (IsKept ArePrograms FollowsFlow) (λ flow k told. told ≡ flow_text flow) before after kept bytes
-        told no_read (λ line why at. not_both (flow_refused bytes) (line, why) is at) short no_write no_refusal fault ended
+        ends.asked_fine HasFlow RefusesLine (IsKept ArePrograms FollowsFlow) (λ flow k told. told ≡ flow_text flow) (λ flow. Unit {0})
+        before after kept bytes told no_read (λ line why at. not_both (flow_refused bytes) (line, why) is at) short no_write no_refusal fault ended
 
     -- a refused one is refused at its line
     pub refused_at_line : (line : ℕ) (why : FlowWhy) → length bytes ≤ input_limit → flow_refused bytes ≡ Some (line, why) →
         (fault ≡ Some (Input line why)) ⊎ (fault ≡ Some Memory)
     refused_at_line line why short is =
-        ends.refused_there HasFlow RefusesLine (IsKept ArePrograms FollowsFlow) (λ flow k told. told ≡ flow_text flow) before after kept
-        bytes told no_read (λ flow has. not_both (flow_refused bytes) (line, why) has.0 is) short line why
+        ends.refused_there HasFlow RefusesLine (IsKept ArePrograms FollowsFlow) (λ flow k told. told ≡ flow_text flow) (λ flow. Unit {0})
+        before after kept bytes told no_read (λ flow has. not_both (flow_refused bytes) (line, why) has.0 is) short line why
         (λ l w at. ap fault_with (sym at ∙ is)) fault ended
 
     -- one that is too long is told as such
     pub overlong_told : input_limit < length bytes → (fault ≡ Some (TooLarge (input_limit + 1))) ⊎ (fault ≡ Some Memory)
     overlong_told long =
-        ends.overlong_told HasFlow RefusesLine (IsKept ArePrograms FollowsFlow) (λ flow k told. told ≡ flow_text flow) before after kept
-        bytes told no_read long fault ended
+        ends.overlong_told HasFlow RefusesLine (IsKept ArePrograms FollowsFlow) (λ flow k told. told ≡ flow_text flow) (λ flow. Unit {0})
+        before after kept bytes told no_read long fault ended

@@ -14,6 +14,7 @@ pub flowed_early : (IsOf : Config → Type 0) (before after : Scene) → after.t
     FindsValues IsOf before after (Some Memory) None
 flowed_early IsOf before after same none = record {
   ends =
-      ends_early HasFlow RefusesLine (IsKept ArePrograms FollowsFlow) (λ flow k told. told ≡ flow_text flow) before after Memory tt same;
+      ends_early HasFlow RefusesLine (IsKept ArePrograms FollowsFlow) (λ flow k told. told ≡ flow_text flow) (λ flow. Unit {0})
+      before after Memory tt same;
   run = record { numbers = tt; threaded = λ e. tt; untouched = λ e. none };
 }

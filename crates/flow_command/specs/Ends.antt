@@ -12,7 +12,8 @@ use Rattle.flow_command.specs.Flows.{ArePrograms, FollowsFlow, HasFlow, RefusesL
 -- the ends of a run over a flow, of which the values of its names are told
 abbrev pub EndsWith : Scene → Scene → Option (Fault FlowWhy) → Option (Kept FlowOutcome) → Type 0
 EndsWith before after fault kept =
-    EndsBy HasFlow RefusesLine (IsKept ArePrograms FollowsFlow) (λ flow k told. told ≡ flow_text flow) before after fault kept
+    EndsBy HasFlow RefusesLine (IsKept ArePrograms FollowsFlow) (λ flow k told. told ≡ flow_text flow) (λ flow. Unit {0})
+    before after fault kept
 
 -- the ends of `flow`: it runs in threads, and what is kept has such numbers
 pub record FindsValues (IsOf : Config → Type 0) (before after : Scene) (fault : Option (Fault FlowWhy)) (kept : Option (Kept FlowOutcome))

@@ -31,6 +31,8 @@ impl Command for Flows {
 
     ghost tells = { λ flows flow kept told. told ≡ flow_text flow };
 
+    ghost may_take = { λ flows flow many. Unit {0} };
+
     fn read(&self, alloc: Global, bytes: &[u8]) -> Result<FlowInput, ReadFault<FlowWhy>> {
         FlowInput::read(alloc, bytes)
     }
@@ -52,6 +54,8 @@ impl Command for Flows {
     ) -> Result<Vec<u8>, NoMemory> {
         tell_run(alloc, asked, kept)
     }
+
+    ghost takes = { λ flows flow many heard. tt };
 }
 
 // The programs of the ranks: the first has the flow. Its only error is `NoMemory`.
