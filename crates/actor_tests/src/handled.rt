@@ -4,7 +4,7 @@ ghost use Rattle.std.specs.Prelude.{◌<◌};
 
 use adlb_unit::{
     Actor, AskedList, BatchId, Config, Letter, Message, Payload, Rank, Server, Target, Token,
-    Types, Unit, UnitId, UnitNote, Why, WorkType,
+    Trouble, Types, Unit, UnitId, UnitNote, Why, WorkType,
 };
 use server_core::{LeftUnit, ServerState, Spare, Step};
 use std::alloc::Global;
@@ -67,6 +67,8 @@ pub(crate) enum Says {
 pub(crate) enum Line {
     // It handles a letter of this rank: the stamp of the step, its letters and its entries.
     Hears(u32, Says),
+    // It handles a letter of rank 0 that was sent with this stamp: the stamp of the step and its entries, or its trouble.
+    HearsAt(u64, Says),
     // It handles a letter: the stamp of the step, its letters in short, and its entries.
     Answers(Actor, Says),
     // Whether it expects such a letter of this actor.
@@ -276,16 +278,45 @@ fn expects(
     Ok(server.expects(from, &letter))
 }
 
-// The server, which is not broken, handles a letter that it expects.
-fn step(alloc: Global, server: &mut ServerState, from: Actor, says: Says) -> Result<Step, Fail> {
-    let letter = letter(alloc, 0, says)?;
+// The server, which is not broken, handles a letter that it expects: its step, or its trouble.
+fn step_at(
+    alloc: Global,
+    server: &mut ServerState,
+    from: Actor,
+    stamp: u64,
+    says: Says,
+) -> Result<Result<Step, Trouble>, Fail> {
+    let letter = letter(alloc, stamp, says)?;
     if server.broken().is_some() {
         return Err("broken".into());
     }
     if !server.expects(from, &letter) {
         return Err("not expected".into());
     }
-    Ok(server.step(Spare::new(alloc), from, letter)?)
+    Ok(server.step(Spare::new(alloc), from, letter))
+}
+
+fn step(alloc: Global, server: &mut ServerState, from: Actor, says: Says) -> Result<Step, Fail> {
+    Ok(step_at(alloc, server, from, 0, says)??)
+}
+
+fn hears_at(
+    alloc: Global,
+    server: &mut ServerState,
+    stamp: u64,
+    says: Says,
+) -> Result<String, Fail> {
+    match step_at(alloc, server, RANK, stamp, says)? {
+        Ok(step) => step_shown(alloc, &step),
+        Err(trouble) => Ok(format!(in alloc; "{trouble:?}")?),
+    }
+}
+
+// The stamp of a step and its entries.
+fn step_shown(alloc: Global, step: &Step) -> Result<String, Fail> {
+    let stamp = step.stamp;
+    let entries = &step.entries;
+    Ok(format!(in alloc; "{stamp} {entries:?}")?)
 }
 
 fn hears(alloc: Global, server: &mut ServerState, from: Actor, says: Says) -> Result<String, Fail> {
@@ -381,6 +412,7 @@ fn reason(why: &Why) -> &'static str {
 fn shown(alloc: Global, server: &mut ServerState, line: Line) -> Result<String, Fail> {
     match line {
         Line::Hears(rank, says) => hears(alloc, server, Actor::Rank(Rank(rank)), says),
+        Line::HearsAt(stamp, says) => hears_at(alloc, server, stamp, says),
         Line::Answers(from, says) => answers(alloc, server, from, says),
         Line::Expects(from, says) => yes(alloc, expects(alloc, server, from, 0, says)?),
         Line::ExpectsAt(stamp) => yes(alloc, expects(alloc, server, RANK, stamp, Says::Finish)?),

@@ -46,6 +46,28 @@ fn grants_and_then_is_exhausted(rt: HostRuntime) -> Result<(), Fail> {
     play(&rt, rt.alloc(), 1, 1, 0, SCENE)
 }
 
+// The last stamp is 2^48 - 1: a letter that was sent one before it gets it, and one that was sent with it breaks the server.
+#[test]
+fn gives_no_stamp_past_the_last(rt: HostRuntime) -> Result<(), Fail> {
+    const LAST: u64 = (1 << 48) - 1;
+    const SCENE: &[(Line, &str)] = &[
+        (
+            Line::HearsAt(LAST - 1, Says::Reserve(0)),
+            "281474976710655 [Exhausted, Over { rank: Rank(0), call: 0, end: Exhausted }]",
+        ),
+        (Line::Broken, "None"),
+    ];
+    play(&rt, rt.alloc(), 1, 1, 0, SCENE)?;
+    const PAST: &[(Line, &str)] = &[
+        (
+            Line::HearsAt(LAST, Says::Reserve(0)),
+            "TooLong { stamp: 281474976710656 }",
+        ),
+        (Line::Broken, "Some(TooLong { stamp: 281474976710656 })"),
+    ];
+    play(&rt, rt.alloc(), 1, 1, 0, PAST)
+}
+
 #[test]
 fn counts_what_is_free_of_a_type(rt: HostRuntime) -> Result<(), Fail> {
     const SCENE: &[(Line, &str)] = &[

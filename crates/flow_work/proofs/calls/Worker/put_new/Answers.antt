@@ -40,8 +40,10 @@ pub returns-in-Rejected-clause-told : goal.returns-in-Rejected-clause-told
 returns-in-Rejected-clause-told g c =
     passes_by (forms c.args.self.now.ranks) None _ (Fresh c.keep_last.new.kept.items) (Keeping c.keep_last.new.kept.items) true
     c.keep_last.result
-    (λ more. new_kept (forms c.args.self.now.ranks) _ _ c.args.kept.now.items c.keep_last.new.kept.items (c.args.answer.number,
-    c.args.answer.value) c.requires.owes c.put.ensures.fits more
+    (λ more. new_kept (forms c.args.self.now.ranks) _ _ c.args.kept.now.items c.keep_last.new.kept.items (
+      c.args.answer.number,
+      c.args.answer.value,
+    ) c.requires.owes c.put.ensures.fits more
     (replied_by _ _ (put_of (flows (forms c.args.self.now.ranks)) (Answer c.args.answer.number c.args.answer.value)) _ replies.Rejected
     c.in_ok-put.ensures.says c.in-Rejected.is))
     c.keep_last.ensures.kept
@@ -58,8 +60,10 @@ pub returns-in-Ended-clause-told : goal.returns-in-Ended-clause-told
 returns-in-Ended-clause-told g c =
     passes_by (forms c.args.self.now.ranks) None _ (Fresh c.keep_last-in-Ended.new.kept.items) (Keeping
     c.keep_last-in-Ended.new.kept.items) false c.keep_last-in-Ended.result
-    (λ more. new_left (forms c.args.self.now.ranks) _ _ c.args.kept.now.items c.keep_last-in-Ended.new.kept.items (c.args.answer.number,
-    c.args.answer.value) c.requires.owes c.put.ensures.fits c.in-Ended.field-0 more
+    (λ more. new_left (forms c.args.self.now.ranks) _ _ c.args.kept.now.items c.keep_last-in-Ended.new.kept.items (
+      c.args.answer.number,
+      c.args.answer.value,
+    ) c.requires.owes c.put.ensures.fits c.in-Ended.field-0 more
     (replied_by _ _ (put_of (flows (forms c.args.self.now.ranks)) (Answer c.args.answer.number c.args.answer.value)) _ (replies.Ended
     c.in-Ended.field-0) c.in_ok-put.ensures.says c.in-Ended.is))
     c.keep_last-in-Ended.ensures.kept

@@ -12,8 +12,10 @@ use Rattle.flow_work.proofs.calls.Worker.put_oldest.Goals as goal
 
 pub put-requires-clause-running : goal.put-requires-clause-running
 put-requires-clause-running g c =
-    so_open (forms c.args.self.now.ranks) None _ (going_so (forms c.args.self.now.ranks) None _ _ (Fresh ((c.args.answer.number,
-    c.args.answer.value) ∷ c.args.kept.now.items)) c.requires.going refl)
+    so_open (forms c.args.self.now.ranks) None _ (going_so (forms c.args.self.now.ranks) None _ _ (Fresh ((
+      c.args.answer.number,
+      c.args.answer.value,
+    ) ∷ c.args.kept.now.items)) c.requires.going refl)
 
 pub returns-in_err-put-clause-so_far : goal.returns-in_err-put-clause-so_far
 returns-in_err-put-clause-so_far g c =

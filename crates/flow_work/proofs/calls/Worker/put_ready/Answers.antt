@@ -58,8 +58,10 @@ returns-in-Accepted-clause-told g c =
 pub returns-in-Accepted-clause-so_far : goal.returns-in-Accepted-clause-so_far
 returns-in-Accepted-clause-so_far g c =
     whole_way (forms c.args.self.now.ranks) (Some c.args.flow.now) _ _ _ c.in_ok-put.ensures.kept.whole
-    (going_so (forms c.args.self.now.ranks) (Some c.args.flow.now) _ _ (AtHome c.args.flow.now (record c.args.home.now { store =
-    c.pass.new.self }))
+    (going_so (forms c.args.self.now.ranks) (Some c.args.flow.now) _ _ (AtHome c.args.flow.now (record c.args.home.now {
+      store =
+          c.pass.new.self;
+    }))
     (subst (λ (s : Store). IsGoing (forms c.args.self.now.ranks) (Some c.args.flow.now) (g.R.Rank.link c.put.new.link).said
     (AtHome c.args.flow.now (record c.args.home.now { store = s }))) (sym c.pass.ensures)
     (rule_taken_is (forms c.args.self.now.ranks) c.args.flow.now _ c.args.home.now c.requires.going c.args.unit c.requires.next

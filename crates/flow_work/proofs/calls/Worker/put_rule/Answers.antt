@@ -30,8 +30,10 @@ returns-in-None-clause-told g c =
 pub returns-in-None-clause-so_far : goal.returns-in-None-clause-so_far
 returns-in-None-clause-so_far g c =
     whole_way (forms c.args.self.now.ranks) (Some c.args.flow.now) _ _ _ c.requires.ready.whole
-    (going_so (forms c.args.self.now.ranks) (Some c.args.flow.now) _ _ (AtHome c.args.flow.now (record c.args.home.now { store =
-    c.pass.new.self }))
+    (going_so (forms c.args.self.now.ranks) (Some c.args.flow.now) _ _ (AtHome c.args.flow.now (record c.args.home.now {
+      store =
+          c.pass.new.self;
+    }))
     (subst (λ (s : Store). IsGoing (forms c.args.self.now.ranks) (Some c.args.flow.now) (g.R.Rank.link c.args.link.now).said
     (AtHome c.args.flow.now (record c.args.home.now { store = s }))) (sym c.pass.ensures)
     (passed_is (forms c.args.self.now.ranks) c.args.flow.now _ c.args.home.now c.requires.going c.args.number c.requires.next

@@ -30,8 +30,10 @@ returns-in-Ok-clause-so_far g c =
     c.args.link.now).said
     (AtHome c.args.flow.now c.args.home.now) (piece_read u)) is c.requires.came in
     whole_way (forms c.args.self.now.ranks) (Some c.args.flow.now) _ _ _ c.requires.ready.whole
-    (going_so (forms c.args.self.now.ranks) (Some c.args.flow.now) _ _ (AtHome c.args.flow.now (record c.args.home.now { store =
-    c.keep.new.self }))
+    (going_so (forms c.args.self.now.ranks) (Some c.args.flow.now) _ _ (AtHome c.args.flow.now (record c.args.home.now {
+      store =
+          c.keep.new.self;
+    }))
     (answer_stored (forms c.args.self.now.ranks) c.args.flow.now c.args.home.now c.keep.new.self c.in-Some-Answer.answer.number
     c.in-Some-Answer.answer.value
     c.in-Ok.ensures.out c.in-Ok.ensures.values c.in-Ok.ensures.next c.in-Ok.ensures.grows _ came) refl)

@@ -1,0 +1,4 @@
+pub mod Ended
+pub mod Joining
+pub mod Programs
+pub mod Starting

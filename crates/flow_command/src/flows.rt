@@ -1,0 +1,74 @@
+//! Runs over flows, as a command.
+
+ghost use Rattle.std.specs.Prelude.{◌≡◌, ◌<◌, IfOk, length};
+ghost use Rattle.flow_law.specs.Flows.{flow_text};
+ghost use Rattle.flow_command.specs.Flows.{ArePrograms, HasFlow, RefusesLine};
+
+use crate::inputs::FlowInput;
+use crate::telling::tell_run;
+use adlb_unit::{NoMemory, or_no_memory};
+use flow_app::{FlowOutcome, FlowWhy};
+use flow_work::FlowProgram;
+use run_command::{Command, Kept, ReadFault};
+use std::alloc::Global;
+
+/// A run over the flow of an input.
+#[derive(Clone, Copy)]
+pub struct Flows {}
+
+impl Command for Flows {
+    type Asked = FlowInput;
+
+    type Why = FlowWhy;
+
+    type Program = FlowProgram;
+
+    ghost asks = { λ flows bytes flow. HasFlow bytes flow };
+
+    ghost refuses = { λ flows bytes line why. RefusesLine bytes line why };
+
+    ghost are_programs = { λ flows ranks flow programs. ArePrograms ranks flow programs };
+
+    ghost tells = { λ flows flow kept told. told ≡ flow_text flow };
+
+    ghost may_take = { λ flows flow many. Unit {0} };
+
+    fn read(&self, alloc: Global, bytes: &[u8]) -> Result<FlowInput, ReadFault<FlowWhy>> {
+        FlowInput::read(alloc, bytes)
+    }
+
+    fn programs(
+        &self,
+        alloc: Global,
+        ranks: u32,
+        asked: &FlowInput,
+    ) -> Result<Vec<FlowProgram>, NoMemory> {
+        programs_of(alloc, ranks, asked)
+    }
+
+    fn tell(
+        &self,
+        alloc: Global,
+        asked: &FlowInput,
+        kept: &Kept<FlowOutcome>,
+    ) -> Result<Vec<u8>, NoMemory> {
+        tell_run(alloc, asked, kept)
+    }
+
+    ghost takes = { λ flows flow many heard. tt };
+}
+
+// The programs of the ranks: the first has the flow. Its only error is `NoMemory`.
+fn programs_of(alloc: Global, ranks: u32, asked: &FlowInput) -> Result<Vec<FlowProgram>, NoMemory>
+    requires some { 0 < ranks }
+    ensures all { IfOk result (λ programs. length programs.items ≡ ranks) }
+    ensures programs { IfOk result (λ programs. ArePrograms ranks asked.now programs.items) }
+{
+    let flow = asked.again(alloc)?;
+    let mut programs = or_no_memory(Vec::with_capacity(alloc, ranks as usize))?;
+    programs.push_reserved(FlowProgram::new(alloc, ranks, Some(flow)));
+    for _rank in 1..ranks {
+        programs.push_reserved(FlowProgram::new(alloc, ranks, None));
+    }
+    Ok(programs)
+}
