@@ -32,7 +32,8 @@ module _ (before after : Scene) (fault : Option (Fault FlowWhy)) (kept : Option 
         (Rises before.refused after.refused → ⊥) → IsFine fault
     accepted_fine short is no_write no_refusal =
         ends.asked_fine HasFlow RefusesLine (IsKept ArePrograms FollowsFlow) (λ flow k told. told ≡ flow_text flow) (λ flow. Unit {0})
-        before after kept bytes told no_read (λ line why at. not_both (flow_refused bytes) (line, why) is at) short no_write no_refusal fault ended
+        before after kept bytes told no_read (λ line why at. not_both (flow_refused bytes) (line, why) is at) short no_write no_refusal
+        fault ended
 
     -- a refused one is refused at its line
     pub refused_at_line : (line : ℕ) (why : FlowWhy) → length bytes ≤ input_limit → flow_refused bytes ≡ Some (line, why) →
