@@ -3,12 +3,16 @@ use Rattle.std.proofs.Common.{◌≡◌, ◌⊎◌, ℕ, false, Option, Some, No
 use Rattle.std.specs.Prelude.{option_map}
 use Rattle.adlb_unit.specs.declared.configs.Config.{Config}
 use Rattle.command_words.specs.declared.commands.Command.{Command}
-use Rattle.command_words.specs.declared.commands.Command.TheVariants.{Solve, Check, Make, Drill, Tour, Draw}
+use Rattle.command_words.specs.declared.commands.Command.TheVariants.{Solve, Check, Make, Drill, Tour, Flow, Draw}
 use Rattle.command_words.specs.declared.commands.RunOptions.{RunOptions}
+use Rattle.command_words.specs.declared.commands.RunWords.{RunWords}
 use Rattle.command_words.specs.declared.commands.SolveWords.{SolveWords}
-use Rattle.command_words.specs.declared.commands.TourWords.{TourWords}
 use Rattle.command_words.specs.declared.commands.WordsFault.{WordsFault}
 use Rattle.command_words.specs.declared.commands.WordsFault.TheVariants as words
+use Rattle.flow_app.specs.declared.faults.FlowWhy.{FlowWhy}
+use Rattle.flow_app.specs.declared.finishing.FlowOutcome.{FlowOutcome}
+use Rattle.flow_command.proofs.Starting.{flowed_early}
+use Rattle.flow_command.specs.Ends.{FindsValues}
 use Rattle.job_report.specs.declared.outcomes.Outcome.{Outcome}
 use Rattle.job_text.specs.declared.faults.LineWhy as of_jobs
 use Rattle.ledger_command.specs.declared.faults.CheckFault.{CheckFault}
@@ -31,11 +35,12 @@ use Rattle.tour_command.proofs.Starting.{toured_early}
 use Rattle.tour_command.specs.Ends.{FindsTour}
 use Rattle.tour_search.specs.declared.faults.CitiesWhy.{CitiesWhy}
 use Rattle.adlb_command.proofs.Made.{none_taken}
-use Rattle.adlb_command.specs.Ends.{fault_made, fault_run, fault_said, fault_told, why_of, why_of_cities}
-use Rattle.adlb_command.specs.Top.{DrillsAs, EndsAs, EndsAsChecked, EndsAsDrawn, EndsAsMade, EndsAsRun, EndsUnsaid, SolvesAs, ToursAs}
+use Rattle.adlb_command.specs.Ends.{fault_made, fault_run, fault_said, fault_told, why_of, why_of_cities, why_of_flow}
+use Rattle.adlb_command.specs.Top.{DrillsAs, EndsAs, EndsAsChecked, EndsAsDrawn, EndsAsMade, EndsAsRun, EndsUnsaid, FlowsAs, SolvesAs}
+use Rattle.adlb_command.specs.Top.{ToursAs}
 use Rattle.adlb_command.specs.Words.{IsConfigOf, extras_of, settings_of}
 use Rattle.adlb_command.specs.declared.ends.AnyKept.{AnyKept}
-use Rattle.adlb_command.specs.declared.ends.AnyKept.TheVariants.{Puzzles, Tours}
+use Rattle.adlb_command.specs.declared.ends.AnyKept.TheVariants.{Puzzles, Tours, Flows}
 use Rattle.adlb_command.specs.declared.faults.LineWhy.{LineWhy}
 use Rattle.adlb_command.specs.declared.faults.RunFault.{RunFault}
 use Rattle.adlb_command.specs.declared.faults.RunFault.TheVariants.{Usage, Memory}
@@ -103,6 +108,13 @@ module _ (here : Scene) where
     kept_is = refl;
     ended = toured_early (IsConfigOf w.sizes false) here here refl starts_none;
   }
+  out_of_memory (Some (Flow w)) = record {
+    met = Some runs.Memory;
+    own = None;
+    fault_is = refl;
+    kept_is = refl;
+    ended = flowed_early (IsConfigOf w.sizes false) here here refl starts_none;
+  }
 
   -- the words were not read
   unread_as : (said : Option Command) (met : WordsFault) → (met ≡ words.Usage → said ≡ None)
@@ -150,8 +162,17 @@ module _ (before after : Scene) (met : Option (Fault of_jobs.LineWhy)) (own : Op
 -- The words say a run over cities, and this is how it ended.
 
 pub toured_said : (before after : Scene) (met : Option (Fault CitiesWhy)) (own : Option (Kept TourOutcome)) (config : Config)
-    (w : TourWords) → IsConfigOf w.sizes false config → FindsTour (λ x. x ≡ config) before after met own → ToursAs w before after met own
+    (w : RunWords) → IsConfigOf w.sizes false config → FindsTour (λ x. x ≡ config) before after met own → ToursAs w before after met own
 toured_said before after met own config w is found = record {
+  ends = found.ends;
+  run = ran_as config before after (IsConfigOf w.sizes false) is false own found.run;
+}
+
+-- The words say a run over a flow, and this is how it ended.
+
+pub flowed_said : (before after : Scene) (met : Option (Fault FlowWhy)) (own : Option (Kept FlowOutcome)) (config : Config)
+    (w : RunWords) → IsConfigOf w.sizes false config → FindsValues (λ x. x ≡ config) before after met own → FlowsAs w before after met own
+flowed_said before after met own config w is found = record {
   ends = found.ends;
   run = ran_as config before after (IsConfigOf w.sizes false) is false own found.run;
 }
@@ -175,11 +196,19 @@ module _ (said : Option Command) (before after : Scene) (fault : Option RunFault
       record { met = met; own = own; fault_is = fault_is; kept_is = same; ended = ended } in
       subst (λ s. EndsAs s before after fault kept) (sym is) run
 
-  pub ends_toured : (w : TourWords) → said ≡ Some (Tour w) → (met : Option (Fault CitiesWhy)) (own : Option (Kept TourOutcome)) →
+  pub ends_toured : (w : RunWords) → said ≡ Some (Tour w) → (met : Option (Fault CitiesWhy)) (own : Option (Kept TourOutcome)) →
       fault ≡ option_map (fault_run why_of_cities) met → kept ≡ option_map Tours own → ToursAs w before after met own →
       EndsAs said before after fault kept
   ends_toured w is met own fault_is same ended =
       let run : EndsAsRun why_of_cities Tours (ToursAs w before after) fault kept =
+      record { met = met; own = own; fault_is = fault_is; kept_is = same; ended = ended } in
+      subst (λ s. EndsAs s before after fault kept) (sym is) run
+
+  pub ends_flowed : (w : RunWords) → said ≡ Some (Flow w) → (met : Option (Fault FlowWhy)) (own : Option (Kept FlowOutcome)) →
+      fault ≡ option_map (fault_run why_of_flow) met → kept ≡ option_map Flows own → FlowsAs w before after met own →
+      EndsAs said before after fault kept
+  ends_flowed w is met own fault_is same ended =
+      let run : EndsAsRun why_of_flow Flows (FlowsAs w before after) fault kept =
       record { met = met; own = own; fault_is = fault_is; kept_is = same; ended = ended } in
       subst (λ s. EndsAs s before after fault kept) (sym is) run
 
@@ -226,4 +255,5 @@ usage_unsaid (Some Check) before after kept ends = absurd (no_usage_told ends.ch
 usage_unsaid (Some (Make count seed)) before after kept ends = absurd (no_usage_made ends.made ends.fault_is)
 usage_unsaid (Some (Drill count seed options)) before after kept ends = absurd (no_usage_ran why_of ends.met ends.fault_is)
 usage_unsaid (Some (Tour w)) before after kept ends = absurd (no_usage_ran why_of_cities ends.met ends.fault_is)
+usage_unsaid (Some (Flow w)) before after kept ends = absurd (no_usage_ran why_of_flow ends.met ends.fault_is)
 usage_unsaid (Some Draw) before after kept ends = absurd (no_usage_told ends.drawn ends.fault_is)

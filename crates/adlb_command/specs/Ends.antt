@@ -4,6 +4,8 @@ use Rattle.adlb_unit.specs.declared.configs.Config.{Config}
 use Rattle.bag_ledger.specs.declared.entries.Entry.{Entry as LedgerEntry}
 use Rattle.command_words.specs.declared.commands.WordsFault.{WordsFault}
 use Rattle.command_words.specs.declared.commands.WordsFault.TheVariants as words
+use Rattle.flow_app.specs.declared.faults.FlowWhy.{FlowWhy}
+use Rattle.flow_app.specs.declared.faults.FlowWhy.TheVariants as flows
 use Rattle.job_text.specs.declared.faults.LineWhy as of_jobs
 use Rattle.job_text.specs.declared.faults.LineWhy.TheVariants as jobs
 use Rattle.ledger_command.specs.declared.faults.CheckFault.{CheckFault}
@@ -15,9 +17,10 @@ use Rattle.run_command.specs.declared.faults.Fault.TheVariants as runs
 use Rattle.tour_search.specs.declared.faults.CitiesWhy.{CitiesWhy}
 use Rattle.tour_search.specs.declared.faults.CitiesWhy.TheVariants as cities
 use Rattle.adlb_command.specs.declared.ends.AnyKept.{AnyKept}
-use Rattle.adlb_command.specs.declared.ends.AnyKept.TheVariants.{Puzzles, Tours}
+use Rattle.adlb_command.specs.declared.ends.AnyKept.TheVariants.{Puzzles, Tours, Flows}
 use Rattle.adlb_command.specs.declared.faults.LineWhy.{LineWhy}
 use Rattle.adlb_command.specs.declared.faults.LineWhy.TheVariants.{Long, Length, Character, Item, Number, Word, Entry, Cities, Cost, Extra}
+use Rattle.adlb_command.specs.declared.faults.LineWhy.TheVariants.{Form, Twice, Many}
 use Rattle.adlb_command.specs.declared.faults.RunFault.{RunFault}
 use Rattle.adlb_command.specs.declared.faults.RunFault.TheVariants.{Input, Usage, Read, Write, NoThread, Memory, TooLong, TooLarge}
 
@@ -39,8 +42,8 @@ IsFine (Some Memory) = Unit {0}
 IsFine (Some (TooLong stamp)) = Unit {0}
 IsFine fault = ⊥
 
--- Which fault of a command one of the words is; one of a run over puzzles and batches, or over cities, by what its reasons are; one of a
--- check or a drawing, and one of a making.
+-- Which fault of a command one of the words is; one of a run over puzzles and batches, over cities or over a flow, by what its reasons
+-- are; one of a check or a drawing, and one of a making.
 
 abbrev pub fault_said : WordsFault → RunFault
 fault_said words.Usage = Usage
@@ -59,6 +62,12 @@ why_of_cities cities.Long = Long
 why_of_cities cities.Cities = Cities
 why_of_cities cities.Cost = Cost
 why_of_cities cities.Extra = Extra
+
+abbrev pub why_of_flow : FlowWhy → LineWhy
+why_of_flow flows.Long = Long
+why_of_flow flows.Form = Form
+why_of_flow flows.Twice = Twice
+why_of_flow flows.Many = Many
 
 abbrev pub fault_run : {W : Type 0} → (W → LineWhy) → Fault W → RunFault
 fault_run means (runs.Input line why) = Input line (means why)
@@ -95,7 +104,9 @@ fault_made (Err fault) = Some (fault_at_making fault)
 abbrev pub config_kept : AnyKept → Config
 config_kept (Puzzles kept) = kept.report.config
 config_kept (Tours kept) = kept.report.config
+config_kept (Flows kept) = kept.report.config
 
 abbrev pub ledger_kept : AnyKept → List LedgerEntry
 ledger_kept (Puzzles kept) = kept.report.ledger
 ledger_kept (Tours kept) = kept.report.ledger
+ledger_kept (Flows kept) = kept.report.ledger

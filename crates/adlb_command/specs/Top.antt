@@ -2,11 +2,14 @@
 use Rattle.std.specs.Prelude.{◌≡◌, ◌⊎◌, ℕ, false, Option, Some, None, Result, option_map}
 use Rattle.adlb_io.specs.Inputs.{Seen, seen}
 use Rattle.command_words.specs.declared.commands.Command.{Command}
-use Rattle.command_words.specs.declared.commands.Command.TheVariants.{Solve, Check, Make, Drill, Tour, Draw}
+use Rattle.command_words.specs.declared.commands.Command.TheVariants.{Solve, Check, Make, Drill, Tour, Flow, Draw}
 use Rattle.command_words.specs.declared.commands.RunOptions.{RunOptions}
+use Rattle.command_words.specs.declared.commands.RunWords.{RunWords}
 use Rattle.command_words.specs.declared.commands.SolveWords.{SolveWords}
-use Rattle.command_words.specs.declared.commands.TourWords.{TourWords}
 use Rattle.draw_command.specs.Ends.{DrawsTo}
+use Rattle.flow_app.specs.declared.faults.FlowWhy.{FlowWhy}
+use Rattle.flow_app.specs.declared.finishing.FlowOutcome.{FlowOutcome}
+use Rattle.flow_command.specs.Ends.{FindsValues}
 use Rattle.job_report.specs.declared.outcomes.Outcome.{Outcome}
 use Rattle.job_text.specs.declared.faults.LineWhy as of_jobs
 use Rattle.ledger_command.specs.Ends.{ChecksTo}
@@ -24,10 +27,10 @@ use Rattle.solve_command.specs.Told.{behind}
 use Rattle.tour_app.specs.declared.outcomes.TourOutcome.{TourOutcome}
 use Rattle.tour_command.specs.Ends.{FindsTour}
 use Rattle.tour_search.specs.declared.faults.CitiesWhy.{CitiesWhy}
-use Rattle.adlb_command.specs.Ends.{fault_made, fault_run, fault_told, why_of, why_of_cities}
+use Rattle.adlb_command.specs.Ends.{fault_made, fault_run, fault_told, why_of, why_of_cities, why_of_flow}
 use Rattle.adlb_command.specs.Words.{IsConfigOf, extras_of, settings_of}
 use Rattle.adlb_command.specs.declared.ends.AnyKept.{AnyKept}
-use Rattle.adlb_command.specs.declared.ends.AnyKept.TheVariants.{Puzzles, Tours}
+use Rattle.adlb_command.specs.declared.ends.AnyKept.TheVariants.{Puzzles, Tours, Flows}
 use Rattle.adlb_command.specs.declared.faults.LineWhy.{LineWhy}
 use Rattle.adlb_command.specs.declared.faults.RunFault.{RunFault}
 use Rattle.adlb_command.specs.declared.faults.RunFault.TheVariants.{Usage, Memory}
@@ -43,7 +46,7 @@ pub record EndsUnsaid (before after : Scene) (fault : Option RunFault) (kept : O
   pub silent : IsSilent before after kept
   pub none_started : StartsNone before after
 
--- the ends of `solve`, of `drill` and of `tour` with these words
+-- the ends of `solve`, of `drill`, of `tour` and of `flow` with these words
 abbrev pub SolvesAs : SolveWords → Scene → Scene → Option (Fault of_jobs.LineWhy) → Option (Kept Outcome) → Type 0
 SolvesAs words before after met kept =
     let o = words.options in
@@ -53,8 +56,11 @@ abbrev pub DrillsAs : ℕ → ℕ → RunOptions → Scene → Scene → Option 
 DrillsAs count seed options before after met kept =
     Drills count seed (settings_of options) (IsConfigOf options.sizes options.inline) options.inline before after met kept
 
-abbrev pub ToursAs : TourWords → Scene → Scene → Option (Fault CitiesWhy) → Option (Kept TourOutcome) → Type 0
+abbrev pub ToursAs : RunWords → Scene → Scene → Option (Fault CitiesWhy) → Option (Kept TourOutcome) → Type 0
 ToursAs words before after met kept = FindsTour (IsConfigOf words.sizes false) before after met kept
+
+abbrev pub FlowsAs : RunWords → Scene → Scene → Option (Fault FlowWhy) → Option (Kept FlowOutcome) → Type 0
+FlowsAs words before after met kept = FindsValues (IsConfigOf words.sizes false) before after met kept
 
 -- a run of ranks ended so, with this fault of its own and this kept, which mean these
 pub record EndsAsRun {W O : Type 0} (means : W → LineWhy) (holds : Kept O → AnyKept) (ends : Option (Fault W) → Option (Kept O) → Type 0)
@@ -100,4 +106,5 @@ EndsAs (Some (Make count seed)) before after fault kept = EndsAsMade count seed 
 EndsAs (Some (Drill count seed options)) before after fault kept =
     EndsAsRun why_of Puzzles (DrillsAs count seed options before after) fault kept
 EndsAs (Some (Tour words)) before after fault kept = EndsAsRun why_of_cities Tours (ToursAs words before after) fault kept
+EndsAs (Some (Flow words)) before after fault kept = EndsAsRun why_of_flow Flows (FlowsAs words before after) fault kept
 EndsAs (Some Draw) before after fault kept = EndsAsDrawn before after fault kept

@@ -5,6 +5,7 @@ ghost use Rattle.run_command.specs.Kept.{Kept};
 
 use crate::faults::{Reason, RunFault};
 use adlb_unit::Config;
+use flow_app::FlowOutcome;
 use job_report::Outcome;
 use ledger_rules::Complaint;
 use packed_ledger::Ledger;
@@ -18,6 +19,8 @@ pub enum AnyKept {
     Puzzles(Kept<Outcome>),
     /// Tours through cities.
     Tours(Kept<TourOutcome>),
+    /// The rules of a flow.
+    Flows(Kept<FlowOutcome>),
 }
 
 /// What a rank of some kind of program leaves.
@@ -56,6 +59,18 @@ impl Left for TourOutcome {
     }
 }
 
+impl Left for FlowOutcome {
+    ghost use Rattle.adlb_command.specs.declared.ends.AnyKept.TheVariants.{Flows};
+
+    ghost holds = { Flows };
+
+    fn any(kept: Kept<FlowOutcome>) -> AnyKept
+        ensures { result ≡ Flows kept }
+    {
+        AnyKept::Flows(kept)
+    }
+}
+
 impl AnyKept {
     ghost use Rattle.adlb_command.specs.Ends.{config_kept, ledger_kept};
 
@@ -66,6 +81,7 @@ impl AnyKept {
         match self {
             AnyKept::Puzzles(kept) => kept.report().config,
             AnyKept::Tours(kept) => kept.report().config,
+            AnyKept::Flows(kept) => kept.report().config,
         }
     }
 
@@ -76,6 +92,7 @@ impl AnyKept {
         match self {
             AnyKept::Puzzles(kept) => &kept.report().ledger,
             AnyKept::Tours(kept) => &kept.report().ledger,
+            AnyKept::Flows(kept) => &kept.report().ledger,
         }
     }
 }

@@ -3,6 +3,7 @@
 ghost use Rattle.std.specs.Prelude.{◌≡◌, Some};
 
 use command_words::WordsFault;
+use flow_app::FlowWhy;
 use ledger_command::CheckFault;
 use made_jobs::MadeFault;
 use run_command::Fault;
@@ -42,6 +43,15 @@ pub enum LineWhy {
     /// It follows the rows of costs.
     #[error("extra")]
     Extra,
+    /// It is no definition of a flow.
+    #[error("form")]
+    Form,
+    /// It defines a name that was defined before.
+    #[error("twice")]
+    Twice,
+    /// It is definition 100,001 of a flow.
+    #[error("many")]
+    Many,
 }
 
 /// Why a line of some kind of input is refused.
@@ -88,6 +98,21 @@ impl Reason for CitiesWhy {
     }
 }
 
+impl Reason for FlowWhy {
+    ghost use Rattle.adlb_command.specs.Ends.{why_of_flow};
+
+    ghost means = { why_of_flow };
+
+    fn why(self) -> LineWhy {
+        match self {
+            FlowWhy::Long => LineWhy::Long,
+            FlowWhy::Form => LineWhy::Form,
+            FlowWhy::Twice => LineWhy::Twice,
+            FlowWhy::Many => LineWhy::Many,
+        }
+    }
+}
+
 /// Why a command did not write its whole output. Its text is what the user is told.
 #[derive(Clone, Copy, Debug, Error)]
 pub enum RunFault {
@@ -95,7 +120,7 @@ pub enum RunFault {
     #[error("line {line}: {why}")]
     Input { line: u64, why: LineWhy },
     /// The words are refused.
-    #[error("usage: adlbrun solve, make, drill, check, tour or draw with their options")]
+    #[error("usage: adlbrun solve, make, drill, check, tour, flow or draw with their options")]
     Usage,
     /// The source failed.
     #[error("read failed")]

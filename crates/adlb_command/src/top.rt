@@ -13,6 +13,7 @@ use crate::words::{config, extras, settings};
 use adlb_io::{Gate, Sink, Source, Spawner};
 use command_words::{Command, read_words};
 use draw_command::draw_ledger;
+use flow_command::flow;
 use ledger_command::check_ledger;
 use made_jobs::write_made;
 use solve_command::{drill, solve};
@@ -22,11 +23,12 @@ use tour_command::tour;
 /// Runs the command that the words give. `solve` reads puzzles and batches of items from the input, and writes their report to
 /// the output, and what else the words ask for. `make` reads nothing, and writes puzzles and batches that are made from a seed; `drill`
 /// reads nothing, works these as `solve` would, and writes a summary. `check` reads the text of a ledger, and writes whether it is a
-/// legal run; `draw` reads one, and writes its picture. `tour` reads cities, and writes a least tour through them. `solve`, `drill` and
-/// `tour` run each rank and each server in a thread of its own, and wait for them, unless the words say `--inline`; the others start no
-/// thread. Status 0 says that the whole output was written and flushed.
+/// legal run; `draw` reads one, and writes its picture. `tour` reads cities, and writes a least tour through them. `flow` reads named
+/// values and rules, and writes what each name is worth. `solve`, `drill`, `tour` and `flow` run each rank and each server in a thread of
+/// its own, and wait for them, unless the words say `--inline`; the others start no thread. Status 0 says that the whole output was
+/// written and flushed.
 ///
-/// It ends as the command does that the words say (`EndsAs`): `solve`, `drill` and `tour` by their row of `EndsBy`, `make` as
+/// It ends as the command does that the words say (`EndsAs`): `solve`, `drill`, `tour` and `flow` by their row of `EndsBy`, `make` as
 /// `write_made`, `check` as `check_ledger`, and `draw` as `draw_ledger`. If they say none it ends with `Usage`, and nothing is read or
 /// written then. Each fault that has its cause yields to `Memory`. What follows of accepted and refused inputs is in `end_laws`.
 pub fn run_adlb<S: Source, K: Sink, T: Spawner, G: Gate + Send + Drop + 'static>(
@@ -83,6 +85,14 @@ pub fn run_adlb<S: Source, K: Sink, T: Spawner, G: Gate + Send + Drop + 'static>
         Ok(Command::Tour(words)) => RunEnd::of(tour(
             alloc,
             config(&words.sizes, false),
+            input,
+            output,
+            threads,
+            gate,
+        )),
+        Ok(Command::Flow(run)) => RunEnd::of(flow(
+            alloc,
+            config(&run.sizes, false),
             input,
             output,
             threads,

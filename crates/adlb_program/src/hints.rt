@@ -9,11 +9,12 @@ const USAGE: &[&str] = &[
     "make N SEED                             write N puzzles, made from SEED",
     "check                                   tell whether standard input is the text of a legal ledger",
     "tour [OPTION..]                         write a least round tour through the cities of standard input",
+    "flow [OPTION..]                         compute the rules of standard input, and write what each name is worth",
     "N is 0 to 100000, SEED 0 to 2^64 - 1. Options, each once at most, as --ranks 4 or --ranks=4:",
     "--ranks 1 to 32, or 4        --servers 1 to 8, or 2       --limit 64 to 2^30 bytes a server, or 2^26",
     "--budget 1 to 2^32 nodes a puzzle, or 2^24                --grain 1 to 2^32 nodes a unit, or 2^16",
     "--inline: one rank and one server, and no thread          --progress: how far it is, each second; not in line",
-    "tour takes --ranks, --servers, --limit and --progress",
+    "tour and flow take --ranks, --servers, --limit and --progress",
     "--stats: counts of the run behind the report              --ledger: all that happened, behind the report",
     "draw                                    write a picture, an SVG, of the ledger whose text standard input is",
 ];
@@ -60,6 +61,13 @@ fn line_hints(why: &LineWhy) -> &'static [&'static str] {
             "after the first line there are N rows",
         ],
         LineWhy::Extra => &["nothing follows the rows of costs"],
+        LineWhy::Form => &[
+            "a line is let NAME V or rule NAME OP A B, one space between two words; a name has 1 to 16 letters a to z",
+            "V is 0 to 2^64 - 1 with no 0 before it, and OP is add, mul, min, max or xor",
+            "a line that is empty or begins with # is passed over",
+        ],
+        LineWhy::Twice => &["a name is defined by one line"],
+        LineWhy::Many => &["a flow has at most 100000 definitions"],
         LineWhy::Entry => &[
             "a ledger begins with ledger RANKS SERVERS LIMIT, has an entry a line, and ends with end N",
             "solve --ledger writes one behind its report, from the line that begins with ledger on",

@@ -2,13 +2,15 @@
 //!
 //! It holds tests alone, in a crate of their own so that `adlb_command` is not proved again with them. They are the worked rows in
 //! line and with threads, bad input, other commands, faults outside, lists of solutions made by another solver, least tours beside a
-//! search of all orders, and what is said of each fault.
+//! search of all orders, flows, and what is said of each fault.
 #![tactic(auto)]
 
 #[cfg(test)]
 mod draws;
 #[cfg(test)]
 mod faults;
+#[cfg(test)]
+mod flows;
 #[cfg(test)]
 mod inline;
 #[cfg(test)]

@@ -53,6 +53,7 @@ fn kept(alloc: Global, end: &RunEnd) -> Result<(String, usize), Fail> {
     match &end.kept {
         Some(AnyKept::Puzzles(kept)) => shown(alloc, kept),
         Some(AnyKept::Tours(kept)) => shown(alloc, kept),
+        Some(AnyKept::Flows(kept)) => shown(alloc, kept),
         None => Ok((String::new(alloc), 0)),
     }
 }

@@ -228,7 +228,7 @@ const OTHER_WORDS: &[Row] = &[(
     &[FORCED],
     Shows::Refused(
         2,
-        "usage: adlbrun solve, make, drill, check, tour or draw with their options",
+        "usage: adlbrun solve, make, drill, check, tour, flow or draw with their options",
     ),
 )];
 

@@ -94,6 +94,23 @@ const LINES: &[(LineWhy, &str)] = &[
          \x20 nothing follows the rows of costs\n",
     ),
     (
+        LineWhy::Form,
+        "adlbrun: line 2: form\n\
+         \x20 a line is let NAME V or rule NAME OP A B, one space between two words; a name has 1 to 16 letters a to z\n\
+         \x20 V is 0 to 2^64 - 1 with no 0 before it, and OP is add, mul, min, max or xor\n\
+         \x20 a line that is empty or begins with # is passed over\n",
+    ),
+    (
+        LineWhy::Twice,
+        "adlbrun: line 2: twice\n\
+         \x20 a name is defined by one line\n",
+    ),
+    (
+        LineWhy::Many,
+        "adlbrun: line 2: many\n\
+         \x20 a flow has at most 100000 definitions\n",
+    ),
+    (
         LineWhy::Entry,
         "adlbrun: line 2: entry\n\
          \x20 a ledger begins with ledger RANKS SERVERS LIMIT, has an entry a line, and ends with end N\n\
@@ -112,7 +129,7 @@ fn says_what_a_line_can_be(rt: HostRuntime) -> Result<(), Fail> {
 
 /// What is said of words that are refused: the first line, and those after the one that names the word.
 const FIRST: &str =
-    "adlbrun: usage: adlbrun solve, make, drill, check, tour or draw with their options\n";
+    "adlbrun: usage: adlbrun solve, make, drill, check, tour, flow or draw with their options\n";
 
 const COMMANDS: &str = "\n\
     \x20 solve [OPTION..] [--stats] [--ledger]   solve the puzzles and work the batches of standard input\n\
@@ -120,11 +137,12 @@ const COMMANDS: &str = "\n\
     \x20 make N SEED                             write N puzzles, made from SEED\n\
     \x20 check                                   tell whether standard input is the text of a legal ledger\n\
     \x20 tour [OPTION..]                         write a least round tour through the cities of standard input\n\
+    \x20 flow [OPTION..]                         compute the rules of standard input, and write what each name is worth\n\
     \x20 N is 0 to 100000, SEED 0 to 2^64 - 1. Options, each once at most, as --ranks 4 or --ranks=4:\n\
     \x20 --ranks 1 to 32, or 4        --servers 1 to 8, or 2       --limit 64 to 2^30 bytes a server, or 2^26\n\
     \x20 --budget 1 to 2^32 nodes a puzzle, or 2^24                --grain 1 to 2^32 nodes a unit, or 2^16\n\
     \x20 --inline: one rank and one server, and no thread          --progress: how far it is, each second; not in line\n\
-    \x20 tour takes --ranks, --servers, --limit and --progress\n\
+    \x20 tour and flow take --ranks, --servers, --limit and --progress\n\
     \x20 --stats: counts of the run behind the report              --ledger: all that happened, behind the report\n\
     \x20 draw                                    write a picture, an SVG, of the ledger whose text standard input is\n";
 
@@ -158,6 +176,7 @@ const REFUSED: &[(&str, &str)] = &[
     ),
     ("check --stats", "  unexpected argument '--stats' found"),
     ("tour --inline", "  unexpected argument '--inline' found"),
+    ("flow --stats", "  unexpected argument '--stats' found"),
 ];
 
 // What is said of these refused words has this line after the first one.

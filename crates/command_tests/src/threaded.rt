@@ -1,6 +1,7 @@
 //! Starts that are refused, two ranks that really interleave, and many runs, each with a legal ledger.
 
 use crate::draws::Draws;
+use crate::flows::{FIVE, FIVE_WORTH};
 use crate::runs::{is_legal, run_gated, run_words};
 use crate::tables::{FORCED, FORCED_SOLVED, TWO, TWO_SOLVED};
 use crate::tours::{SQUARE, SQUARE_TOURED};
@@ -56,6 +57,7 @@ const STARTS: &[(&str, (&str, &str), u64)] = &[
     ("solve --ranks 32 --servers 8", (FORCED, FORCED_SOLVED), 40),
     ("solve", (FORCED, FORCED_SOLVED), 6),
     ("tour --ranks 2 --servers 1", (SQUARE, SQUARE_TOURED), 3),
+    ("flow --ranks 1 --servers 2", (FIVE, FIVE_WORTH), 3),
 ];
 
 #[test]

@@ -2,7 +2,7 @@
 use Rattle.std.proofs.Common.{◌≡◌, ◌∷◌, [], None, Some, codes, false, refl, true}
 use Rattle.clap.proofs.OnLiterals.{clap_on_literals}
 use Rattle.command_words.specs.Said.{command_of, default_run}
-use Rattle.command_words.specs.declared.commands.Command.TheVariants.{Check, Draw, Drill, Make, Solve, Tour}
+use Rattle.command_words.specs.declared.commands.Command.TheVariants.{Check, Draw, Drill, Flow, Make, Solve, Tour}
 
 no_word : command_of [] ≡ None
 no_word = refl
@@ -95,6 +95,15 @@ tour = refl
 tour_in_line : command_of (codes "tour" ∷ codes "--inline" ∷ []) ≡ None
 unfolding clap_on_literals
 tour_in_line = refl
+
+flow : command_of (codes "flow" ∷ codes "--ranks=1" ∷ codes "--servers" ∷ codes "1" ∷ [])
+    ≡ Some (Flow (record { sizes = record default_run.sizes { ranks = 1; servers = 1 }; progress = false }))
+unfolding clap_on_literals
+flow = refl
+
+flow_in_line : command_of (codes "flow" ∷ codes "--inline" ∷ []) ≡ None
+unfolding clap_on_literals
+flow_in_line = refl
 
 draw : command_of (codes "draw" ∷ []) ≡ Some Draw
 unfolding clap_on_literals

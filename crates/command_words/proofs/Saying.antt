@@ -9,9 +9,9 @@ use Rattle.std.proofs.lemmas.List.{take_all}
 use Rattle.std.proofs.lemmas.Slice.Eq.{bytes_eq-Decides}
 use Rattle.clap.specs.Words.{App, IsUnsignedIn, Kinds, ReadsOne, Row, Text, fault_of, matches_of, one_of}
 use Rattle.command_words.specs.inside.{HoldsIn, IsFound}
-use Rattle.command_words.specs.Options.{drill_app, solve_app, tour_app}
+use Rattle.command_words.specs.Options.{drill_app, flow_app, solve_app, tour_app}
 use Rattle.command_words.specs.Ranges.{counts, seeds}
-use Rattle.command_words.specs.Said.{command_of, drill_of, flag_of, number_of, read_by, run_of, solve_of, tour_of, unless}
+use Rattle.command_words.specs.Said.{command_of, drill_of, flag_of, flow_of, number_of, read_by, run_of, solve_of, tour_of, unless}
 use Rattle.command_words.specs.declared.commands.Command.{Command}
 use Rattle.command_words.specs.declared.commands.Command.TheVariants.{Drill}
 use Rattle.command_words.specs.declared.commands.RunOptions.{RunOptions}
@@ -46,6 +46,9 @@ reads_drill word rest is = rw is refl
 
 pub reads_tour : (word : Text) (rest : List Text) → word ≡ codes "tour" → command_of (word ∷ rest) ≡ read_by tour_app tour_of rest
 reads_tour word rest is = rw is refl
+
+pub reads_flow : (word : Text) (rest : List Text) → word ≡ codes "flow" → command_of (word ∷ rest) ≡ read_by flow_app flow_of rest
+reads_flow word rest is = rw is refl
 
 -- some words are their first and the others
 pub first_and_rest : (words : List (String Global)) (word : String Global) (text : Text) → 1 ≤ length words

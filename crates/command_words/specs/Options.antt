@@ -45,6 +45,10 @@ with_sizes a = with_rule
     (option_rule (codes "servers") server_counts.low server_counts.high))
     (option_rule (codes "limit") limits.low limits.high)
 
+-- a command that takes as well the sizes of a run, and whether it says how far it is
+abbrev pub with_told_sizes : App → App
+with_told_sizes a = with_rule (with_sizes a) (flag_rule (codes "progress"))
+
 -- a command that takes the budget and the grain as well
 abbrev pub with_work : App → App
 with_work a = with_rule
@@ -74,7 +78,10 @@ abbrev pub drill_app : App
 drill_app = with_run (with_made (bare (codes "drill")))
 
 abbrev pub tour_app : App
-tour_app = with_rule (with_sizes (bare (codes "tour"))) (flag_rule (codes "progress"))
+tour_app = with_told_sizes (bare (codes "tour"))
+
+abbrev pub flow_app : App
+flow_app = with_told_sizes (bare (codes "flow"))
 
 abbrev pub draw_app : App
 draw_app = bare (codes "draw")

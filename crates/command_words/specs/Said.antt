@@ -5,11 +5,12 @@ use Rattle.std.specs.Str.{bytes_eq}
 use Rattle.std.specs.Str.Parse.{digits_value, without_leading_plus}
 use Rattle.adlb_unit.specs.Limits.{InLimit}
 use Rattle.clap.specs.Words.{App, Kinds, Row, Text, fault_of, matches_of, one_of}
-use Rattle.command_words.specs.Options.{check_app, draw_app, drill_app, make_app, solve_app, tour_app}
+use Rattle.command_words.specs.Options.{check_app, draw_app, drill_app, flow_app, make_app, solve_app, tour_app}
 use Rattle.command_words.specs.Ranges.{IsIn, budgets, counts, grains, limits, rank_counts, seeds, server_counts}
 use Rattle.command_words.specs.declared.commands.Command.{Command}
-use Rattle.command_words.specs.declared.commands.Command.TheVariants.{Solve, Check, Make, Drill, Tour, Draw}
+use Rattle.command_words.specs.declared.commands.Command.TheVariants.{Solve, Check, Make, Drill, Tour, Flow, Draw}
 use Rattle.command_words.specs.declared.commands.RunOptions.{RunOptions}
+use Rattle.command_words.specs.declared.commands.RunWords.{RunWords}
 use Rattle.command_words.specs.declared.commands.Sizes.{Sizes}
 
 -- the number that is given under this name, in decimal digits; `default` where none is
@@ -38,6 +39,10 @@ run_of rows = record {
   progress = flag_of (codes "progress") rows;
 }
 
+-- the words of a run that has no other options
+abbrev pub words_of : List Row → RunWords
+words_of rows = record { sizes = sizes_of rows; progress = flag_of (codes "progress") rows }
+
 -- where no option is given
 abbrev pub default_run : RunOptions
 default_run = run_of []
@@ -63,7 +68,10 @@ drill_of rows = Drill
     (run_of rows)
 
 abbrev pub tour_of : List Row → Command
-tour_of rows = Tour (record { sizes = sizes_of rows; progress = flag_of (codes "progress") rows })
+tour_of rows = Tour (words_of rows)
+
+abbrev pub flow_of : List Row → Command
+flow_of rows = Flow (words_of rows)
 
 abbrev pub draw_of : List Row → Command
 draw_of rows = Draw
@@ -86,8 +94,9 @@ command_of (word ∷ words) =
     else (if bytes_eq word (codes "make") then read_by make_app make_of words
     else (if bytes_eq word (codes "drill") then read_by drill_app drill_of words
     else (if bytes_eq word (codes "tour") then read_by tour_app tour_of words
+    else (if bytes_eq word (codes "flow") then read_by flow_app flow_of words
     else (if bytes_eq word (codes "draw") then read_by draw_app draw_of words
-    else None)))))
+    else None))))))
 
 -- a run in threads tells each second how far it is
 abbrev pub run_tells : RunOptions → Bool
@@ -97,6 +106,7 @@ abbrev pub tells_progress : Command → Bool
 tells_progress (Solve words) = run_tells words.options
 tells_progress (Drill count seed run) = run_tells run
 tells_progress (Tour words) = words.progress
+tells_progress (Flow words) = words.progress
 tells_progress _ = false
 
 -- the numbers of a run are within their limits
@@ -117,4 +127,5 @@ IsWithin Check = ⊤
 IsWithin (Make count seed) = IsIn counts count
 IsWithin (Drill count seed run) = IsIn counts count × IsRunWithin run
 IsWithin (Tour words) = AreWithin words.sizes
+IsWithin (Flow words) = AreWithin words.sizes
 IsWithin Draw = ⊤

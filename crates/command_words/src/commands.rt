@@ -40,11 +40,11 @@ pub struct SolveWords {
     pub ledger: bool,
 }
 
-/// What `tour` is told.
+/// What `tour` and `flow` are told.
 #[derive(Clone, Copy)]
-pub struct TourWords {
+pub struct RunWords {
     pub sizes: Sizes,
-    /// Its run tells each second how far it is.
+    /// The run tells each second how far it is.
     pub progress: bool,
 }
 
@@ -67,7 +67,9 @@ pub enum Command {
         options: RunOptions,
     },
     /// Find a least tour through the input's cities.
-    Tour(TourWords),
+    Tour(RunWords),
+    /// Compute the rules of the input's flow.
+    Flow(RunWords),
     /// Draw a ledger's text.
     Draw,
 }
@@ -82,7 +84,7 @@ impl Command {
         match self {
             Command::Solve(words) => words.options.progress && !words.options.inline,
             Command::Drill { options, .. } => options.progress && !options.inline,
-            Command::Tour(words) => words.progress,
+            Command::Tour(words) | Command::Flow(words) => words.progress,
             Command::Check | Command::Make { .. } | Command::Draw => false,
         }
     }

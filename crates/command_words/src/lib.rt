@@ -10,6 +10,6 @@ mod options;
 mod reading;
 mod refusals;
 
-pub use commands::{Command, RunOptions, Sizes, SolveWords, TourWords, WordsFault};
+pub use commands::{Command, RunOptions, RunWords, Sizes, SolveWords, WordsFault};
 pub use reading::read_words;
 pub use refusals::refusal;

@@ -2,8 +2,9 @@
 
 ghost use Rattle.std.specs.Prelude.{◌≡◌, IfOk, false};
 ghost use Rattle.clap.specs.Words.{app_of, rule_of, with_rule};
-ghost use Rattle.command_words.specs.Options.{bare, check_app, draw_app, drill_app, flag_rule, make_app, number_rule};
-ghost use Rattle.command_words.specs.Options.{option_rule, solve_app, tour_app, with_made, with_manner, with_run, with_sizes, with_work};
+ghost use Rattle.command_words.specs.Options.{bare, check_app, draw_app, drill_app, flag_rule, flow_app, make_app, number_rule};
+ghost use Rattle.command_words.specs.Options.{option_rule, solve_app, tour_app, with_made, with_manner, with_run, with_sizes};
+ghost use Rattle.command_words.specs.Options.{with_told_sizes, with_work};
 
 use clap::builder::ValueParser;
 use clap::{Arg, ArgAction, Command};
@@ -102,6 +103,13 @@ fn with_sizes<'a>(alloc: Global, command: Command<'a>) -> Result<Command<'a>, Al
     with_option(alloc, command, "limit", 64, 1 << 30)
 }
 
+fn with_told_sizes<'a>(alloc: Global, command: Command<'a>) -> Result<Command<'a>, AllocError>
+    ensures { IfOk result (λ c. app_of c ≡ with_told_sizes (app_of command.entry)) }
+{
+    let command = with_sizes(alloc, command)?;
+    with_flag(alloc, command, "progress")
+}
+
 fn with_work<'a>(alloc: Global, command: Command<'a>) -> Result<Command<'a>, AllocError>
     ensures { IfOk result (λ c. app_of c ≡ with_work (app_of command.entry)) }
 {
@@ -156,8 +164,14 @@ pub(crate) fn drill_command<'a>(alloc: Global) -> Result<Command<'a>, AllocError
 pub(crate) fn tour_command<'a>(alloc: Global) -> Result<Command<'a>, AllocError>
     ensures { IfOk result (λ c. app_of c ≡ tour_app) }
 {
-    let command = with_sizes(alloc, command(alloc, "tour"))?;
-    with_flag(alloc, command, "progress")
+    with_told_sizes(alloc, command(alloc, "tour"))
+}
+
+/// `flow` (`flow_app`).
+pub(crate) fn flow_command<'a>(alloc: Global) -> Result<Command<'a>, AllocError>
+    ensures { IfOk result (λ c. app_of c ≡ flow_app) }
+{
+    with_told_sizes(alloc, command(alloc, "flow"))
 }
 
 /// `draw` (`draw_app`).

@@ -4,15 +4,16 @@ ghost use Rattle.std.specs.Prelude.{◌≡◌, ◌≢◌, IfErr, IfOk, None, Som
 ghost use Rattle.std.specs.String.{string_bytes};
 ghost use Rattle.clap.specs.Words.{IsParsedFrom, app_of, fault_of, found_of, is_simple_and_free, rows_of};
 ghost use Rattle.command_words.specs.inside.{HoldsIn, HoldsMade, HoldsRun, HoldsSizes, IsFound};
-ghost use Rattle.command_words.specs.Options.{check_app, draw_app, drill_app, make_app, solve_app, tour_app};
+ghost use Rattle.command_words.specs.Options.{check_app, draw_app, drill_app, flow_app, make_app, solve_app, tour_app};
 ghost use Rattle.command_words.specs.Ranges.{IsIn, counts, seeds};
 ghost use Rattle.command_words.specs.Said.{AreWithin, IsRunWithin, IsWithin, check_of, command_of, draw_of, drill_of, flag_of};
-ghost use Rattle.command_words.specs.Said.{make_of, number_of, read_by, run_of, sizes_of, solve_of, tour_of};
+ghost use Rattle.command_words.specs.Said.{flow_of, make_of, number_of, read_by, run_of, sizes_of, solve_of, tour_of, words_of};
 ghost use Rattle.command_words.specs.declared.commands.WordsFault.TheVariants.{Usage};
 
-use crate::commands::{Command, RunOptions, Sizes, SolveWords, TourWords, WordsFault};
+use crate::commands::{Command, RunOptions, RunWords, Sizes, SolveWords, WordsFault};
 use crate::options::{
-    check_command, draw_command, drill_command, make_command, solve_command, tour_command,
+    check_command, draw_command, drill_command, flow_command, make_command, solve_command,
+    tour_command,
 };
 use clap::ArgMatches;
 use clap::error::ErrorKind;
@@ -76,6 +77,19 @@ fn run_of(matches: &ArgMatches<'_>) -> RunOptions
         grain: number_of(matches, "grain", 1 << 16),
         inline: flag_of(matches, "inline"),
         progress: flag_of(matches, "progress"),
+    }
+}
+
+// The words of a run that has no other options.
+fn words_of(matches: &ArgMatches<'_>) -> RunWords
+    requires holds { HoldsSizes (rows_of (found_of matches.now)) }
+    ensures said { result ≡ words_of (rows_of (found_of matches.now)) }
+    ensures within { AreWithin result.sizes }
+{
+    let progress = flag_of(matches, "progress");
+    RunWords {
+        sizes: sizes_of(matches),
+        progress,
     }
 }
 
@@ -149,10 +163,17 @@ fn read_tour(alloc: Global, words: &[String]) -> Result<Command, WordsFault>
         read_by tour_app tour_of (map string_bytes words.now) ≡ None) }
 {
     let matches = matches_of(tour_command(alloc)?, words)?;
-    Ok(Command::Tour(TourWords {
-        sizes: sizes_of(&matches),
-        progress: flag_of(&matches, "progress"),
-    }))
+    Ok(Command::Tour(words_of(&matches)))
+}
+
+fn read_flow(alloc: Global, words: &[String]) -> Result<Command, WordsFault>
+    ensures said { IfOk result (λ c. read_by flow_app flow_of (map string_bytes words.now) ≡ Some c) }
+    ensures within { IfOk result IsWithin }
+    ensures refused { IfErr result (λ f. f ≡ Usage →
+        read_by flow_app flow_of (map string_bytes words.now) ≡ None) }
+{
+    let matches = matches_of(flow_command(alloc)?, words)?;
+    Ok(Command::Flow(words_of(&matches)))
 }
 
 fn read_draw(alloc: Global, words: &[String]) -> Result<Command, WordsFault>
@@ -180,6 +201,7 @@ pub fn read_words(alloc: Global, words: &[String]) -> Result<Command, WordsFault
             "make" => read_make(alloc, rest),
             "drill" => read_drill(alloc, rest),
             "tour" => read_tour(alloc, rest),
+            "flow" => read_flow(alloc, rest),
             "draw" => read_draw(alloc, rest),
             _ => Err(WordsFault::Usage),
         },

@@ -1,7 +1,8 @@
 //! Which word is refused, and why, for whoever typed it.
 
 use crate::options::{
-    check_command, draw_command, drill_command, make_command, solve_command, tour_command,
+    check_command, draw_command, drill_command, flow_command, make_command, solve_command,
+    tour_command,
 };
 use clap::error::ErrorKind;
 use std::alloc::{AllocError, Global};
@@ -17,6 +18,7 @@ pub fn refusal(alloc: Global, words: &[String]) -> Result<Option<String>, AllocE
             "make" => refused_by(alloc, make_command(alloc)?, rest),
             "drill" => refused_by(alloc, drill_command(alloc)?, rest),
             "tour" => refused_by(alloc, tour_command(alloc)?, rest),
+            "flow" => refused_by(alloc, flow_command(alloc)?, rest),
             "draw" => refused_by(alloc, draw_command(alloc), rest),
             other => Ok(Some(format!(in alloc; "there is no command '{other}'")?)),
         },

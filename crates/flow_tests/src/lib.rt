@@ -1,4 +1,4 @@
-//! Flows by example: which inputs are flows, and what they come to.
+//! Flows by example: which inputs are flows, and what they come to, read alone and through whole runs.
 //!
 //! It holds tests alone, in a crate of their own so that what they test is not proved again with them.
 #![tactic(auto)]
@@ -9,3 +9,5 @@ mod large;
 mod random;
 #[cfg(test)]
 mod rows;
+#[cfg(test)]
+mod runs;

@@ -35,7 +35,7 @@ const OPS: [&str; 5] = ["add", "mul", "min", "max", "xor"];
 
 /// A definition: a value, or an operation and the places of its inputs.
 #[derive(Clone, Copy)]
-enum Line {
+pub(crate) enum Line {
     Let(u64),
     Rule(usize, usize, usize),
 }
@@ -81,7 +81,7 @@ fn turn(alloc: Global, values: &[Option<u64>], lines: &[Line]) -> Result<Vec<Opt
 }
 
 /// The output by as many turns as there are definitions.
-fn expected(alloc: Global, lines: &[Line]) -> Result<String, Fail> {
+pub(crate) fn expected(alloc: Global, lines: &[Line]) -> Result<String, Fail> {
     let mut values = Vec::new(alloc);
     for _ in lines {
         values = turn(alloc, values.as_slice(), lines)?;
@@ -106,7 +106,7 @@ fn expected(alloc: Global, lines: &[Line]) -> Result<String, Fail> {
 }
 
 /// The input of these definitions.
-fn input(alloc: Global, lines: &[Line]) -> Result<String, Fail> {
+pub(crate) fn input(alloc: Global, lines: &[Line]) -> Result<String, Fail> {
     let mut text = String::new(alloc);
     for (place, line) in lines.iter().enumerate() {
         match line {
@@ -133,7 +133,7 @@ fn below(generator: &mut Pcg32, count: u32) -> usize {
 }
 
 /// Up to 15 definitions: a name may be used before it is defined, of itself, or be no name of a definition.
-fn made(alloc: Global, generator: &mut Pcg32) -> Result<Vec<Line>, Fail> {
+pub(crate) fn made(alloc: Global, generator: &mut Pcg32) -> Result<Vec<Line>, Fail> {
     let mut lines = Vec::new(alloc);
     let count = below(generator, 16);
     for _ in 0..count {

@@ -1,12 +1,12 @@
 //! What lists of words say, and which are refused.
 
-use command_words::{Command, RunOptions, Sizes, TourWords, WordsFault, read_words};
+use command_words::{Command, RunOptions, RunWords, Sizes, WordsFault, read_words};
 use std::alloc::Global;
 use std::test::Fail;
 
 /// Each list of words, with blanks between, and what it says: the command, N and SEED, then ranks, servers, limit, budget,
-/// grain and inline, then whether progress is told, then stats and ledger. `tour` has no budget, grain or inline. It says nothing if it is
-/// refused.
+/// grain and inline, then whether progress is told, then stats and ledger. `tour` and `flow` have no budget, grain or inline. It says
+/// nothing if it is refused.
 const ROWS: &[(&str, &str)] = &[
     (
         "solve",
@@ -86,6 +86,12 @@ const ROWS: &[(&str, &str)] = &[
         "tour --progress --limit=64 --ranks=32 --servers=8",
         "tour 32 8 64 progress",
     ),
+    ("flow", "flow 4 2 67108864"),
+    ("flow --servers=1 --ranks=1 --limit=64", "flow 1 1 64"),
+    (
+        "flow --ranks 32 --progress --servers 8",
+        "flow 32 8 67108864 progress",
+    ),
     ("", ""),
     ("frob", ""),
     ("Solve", ""),
@@ -144,6 +150,15 @@ const ROWS: &[(&str, &str)] = &[
     ("tour --budget 1", ""),
     ("tour --stats", ""),
     ("tour --ledger", ""),
+    ("flow 8", ""),
+    ("flow --servers 9", ""),
+    ("flow --limit=1073741825", ""),
+    ("flow --progress --progress", ""),
+    ("flow --inline", ""),
+    ("flow --grain 1", ""),
+    ("flow --budget 1", ""),
+    ("flow --stats", ""),
+    ("flow --ledger", ""),
 ];
 
 fn sizes_shown(alloc: Global, sizes: Sizes) -> Result<String, Fail> {
@@ -159,10 +174,10 @@ fn told(progress: bool) -> &'static str {
     if progress { " progress" } else { "" }
 }
 
-fn tour_shown(alloc: Global, words: TourWords) -> Result<String, Fail> {
+fn words_shown(alloc: Global, command: &str, words: RunWords) -> Result<String, Fail> {
     let sizes = sizes_shown(alloc, words.sizes)?;
     let told = told(words.progress);
-    Ok(format!(in alloc; "tour {sizes}{told}")?)
+    Ok(format!(in alloc; "{command} {sizes}{told}")?)
 }
 
 fn run_shown(alloc: Global, run: RunOptions) -> Result<String, Fail> {
@@ -196,7 +211,8 @@ fn shown(alloc: Global, command: Command) -> Result<String, Fail> {
             let run = run_shown(alloc, options)?;
             format!(in alloc; "drill {count} {seed} {run}")?
         }
-        Command::Tour(words) => tour_shown(alloc, words)?,
+        Command::Tour(words) => words_shown(alloc, "tour", words)?,
+        Command::Flow(words) => words_shown(alloc, "flow", words)?,
     })
 }
 

@@ -1,14 +1,16 @@
 use Rattle.std.proofs.Common.{◌+◌, None, Some}
+use Rattle.flow_command.proofs.Ended as flows
 use Rattle.run_command.specs.Ends.{input_limit}
 use Rattle.run_command.specs.declared.faults.Fault.TheVariants as runs
 use Rattle.solve_command.proofs.Drilled.{drilled_fine, drilled_in_line}
 use Rattle.solve_command.proofs.Ended.{accepted_fine, overlong_told, refused_at_line, short_in_line}
 use Rattle.solve_command.specs.Told.{IsReported, behind}
 use Rattle.tour_command.proofs.Ended as cities
-use Rattle.adlb_command.specs.Ends.{why_of, why_of_cities}
+use Rattle.adlb_command.specs.Ends.{why_of, why_of_cities, why_of_flow}
 use Rattle.adlb_command.specs.Words.{IsConfigOf, extras_of, settings_of}
 use Rattle.adlb_command.proofs.Checked.{bad_checked, long_checked, text_checked}
 use Rattle.adlb_command.proofs.Drawn.{bad_drawn, long_drawn, text_drawn}
+use Rattle.adlb_command.proofs.Flowed.{kept_flow}
 use Rattle.adlb_command.proofs.Ending.{usage_unsaid}
 use Rattle.adlb_command.proofs.Made.{made_whole}
 use Rattle.adlb_command.proofs.Solved.{either_told, fine_met, fine_told}
@@ -64,6 +66,28 @@ returns-clause-tour_overlong c = λ words before after fault kept bytes ends tol
 
 pub returns-clause-tour_told : goal.returns-clause-tour_told
 returns-clause-tour_told c = λ words told before after fault kept ends. ends
+
+pub returns-clause-flow_complete : goal.returns-clause-flow_complete
+returns-clause-flow_complete c = λ words before after fault kept bytes ends told no_read short is no_write no_refusal.
+    fine_told why_of_flow fault ends.met ends.fault_is
+    (flows.accepted_fine before after ends.met ends.own bytes ends.ended.ends told no_read short is no_write no_refusal)
+
+pub returns-clause-flow_refused : goal.returns-clause-flow_refused
+returns-clause-flow_refused c = λ words before after fault kept bytes ends told no_read line why short is.
+    either_told why_of_flow fault ends.met ends.fault_is (Some (runs.Input line why)) (Some runs.Memory)
+    (flows.refused_at_line before after ends.met ends.own bytes ends.ended.ends told no_read line why short is)
+
+pub returns-clause-flow_overlong : goal.returns-clause-flow_overlong
+returns-clause-flow_overlong c = λ words before after fault kept bytes ends told no_read long.
+    either_told why_of_flow fault ends.met ends.fault_is (Some (runs.TooLarge (input_limit + 1))) (Some runs.Memory)
+    (flows.overlong_told before after ends.met ends.own bytes ends.ended.ends told no_read long)
+
+pub returns-clause-flow_kept : goal.returns-clause-flow_kept
+returns-clause-flow_kept c = λ words before after fault k bytes ends told.
+    kept_flow before after k bytes told ends.met ends.own ends.kept_is ends.ended.ends
+
+pub returns-clause-flow_told : goal.returns-clause-flow_told
+returns-clause-flow_told c = λ words told before after fault kept ends. ends
 
 pub returns-clause-checked : goal.returns-clause-checked
 returns-clause-checked c = λ before after fault kept bytes ends told no_read config ledger short text no_write.

@@ -3,7 +3,7 @@ use Rattle.std.specs.String.{string_bytes}
 use Rattle.command_words.specs.Said.{command_of}
 use Rattle.run_command.specs.Ends.{scene}
 use Rattle.adlb_command.proofs.Ending.{drilled_said, ends_checked, ends_drawn, ends_drilled, ends_made, ends_solved, ends_unread}
-use Rattle.adlb_command.proofs.Ending.{ends_toured, solved_said, toured_said}
+use Rattle.adlb_command.proofs.Ending.{ends_flowed, ends_toured, flowed_said, solved_said, toured_said}
 use Rattle.adlb_command.proofs.top.run_adlb.Goals as goal
 
 pub returns-in-Ok-Solve-clause-ends : goal.returns-in-Ok-Solve-clause-ends
@@ -95,6 +95,22 @@ returns-in-Ok-Tour-clause-ends g c =
     c.tour.result.fault c.tour.result.kept c.of-in-Ok-Tour.ensures.fault c.of-in-Ok-Tour.ensures.kept
     (toured_said _ _ c.tour.result.fault c.tour.result.kept c.config-in-Ok-Tour.result c.in-Ok-Tour.words
     c.config-in-Ok-Tour.ensures.numbers c.tour.ensures.finds)
+
+pub returns-in-Ok-Flow-clause-ends : goal.returns-in-Ok-Flow-clause-ends
+returns-in-Ok-Flow-clause-ends g c =
+    let said = command_of (map string_bytes c.args.words.now) in
+    ends_flowed said
+    (scene (g.S.Source.left c.args.input.now) (g.S.Source.faults c.args.input.now) (g.K.Sink.taken c.args.output.now)
+    (g.K.Sink.faults c.args.output.now) (g.K.Sink.all_flushed c.args.output.now) (g.T.Spawner.faults c.args.threads.now)
+    (g.T.Spawner.starts c.args.threads.now))
+    (scene (g.S.Source.left c.flow.new.input) (g.S.Source.faults c.flow.new.input) (g.K.Sink.taken c.flow.new.output)
+    (g.K.Sink.faults c.flow.new.output) (g.K.Sink.all_flushed c.flow.new.output) (g.T.Spawner.faults c.flow.new.threads)
+    (g.T.Spawner.starts c.flow.new.threads))
+    c.of-in-Ok-Flow.result.fault c.of-in-Ok-Flow.result.kept c.in-Ok-Flow.run
+    (subst (λ x. said ≡ Some x) c.in-Ok-Flow.field-0-is c.in-Ok-Flow.ensures.said)
+    c.flow.result.fault c.flow.result.kept c.of-in-Ok-Flow.ensures.fault c.of-in-Ok-Flow.ensures.kept
+    (flowed_said _ _ c.flow.result.fault c.flow.result.kept c.config-in-Ok-Flow.result c.in-Ok-Flow.run
+    c.config-in-Ok-Flow.ensures.numbers c.flow.ensures.finds)
 
 pub returns-in-Err-clause-ends : goal.returns-in-Err-clause-ends
 returns-in-Err-clause-ends g c =

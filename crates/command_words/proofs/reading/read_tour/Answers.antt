@@ -14,8 +14,8 @@ returns-in_err-matches-clause-refused c =
     c.in_ok-tour_command.ensures c.in_err-matches.ensures.refused in
     search rules
 
-pub sizes_of-requires : goal.sizes_of-requires
-sizes_of-requires c =
+pub words_of-requires : goal.words_of-requires
+words_of-requires c =
     record { holds = sizes_hold tour_app _ _ c.in_ok-matches.ensures.parsed c.in_ok-tour_command.ensures refl refl refl }
 
 pub returns-clause-said : goal.returns-clause-said
