@@ -115,11 +115,7 @@ const REFUSED: &[Row] = &[
         &["let y 1\nrule x sub y y\nlet y 1\n"],
         Shows::Refused(1, "line 2: form"),
     ),
-    (
-        WAYS,
-        &["rule x add y\n"],
-        Shows::Refused(1, "line 1: form"),
-    ),
+    (WAYS, &["rule x add y\n"], Shows::Refused(1, "line 1: form")),
     (
         WAYS,
         &["rule x add y y y\n"],

@@ -45,14 +45,7 @@ fn is_worth<T: Spawner>(
 ) -> Result<bool, Fail> {
     let mut source = SteadySource::new(input.as_bytes().to_vec(alloc)?);
     let mut sink = SteadySink::new(alloc);
-    let ended = flow(
-        alloc,
-        config,
-        &mut source,
-        &mut sink,
-        threads,
-        FreeGate {},
-    );
+    let ended = flow(alloc, config, &mut source, &mut sink, threads, FreeGate {});
     let Some(kept) = &ended.kept else {
         return Ok(false);
     };
