@@ -16,7 +16,7 @@ pub use Rattle.bag_ledger.specs.declared.entries.Call.{Call}
 pub use Rattle.bag_ledger.specs.declared.entries.Entry.{Entry}
 pub use Rattle.bag_ledger.specs.declared.entries.Said.{Said}
 pub use Rattle.bag_ledger.specs.declared.states.RankState.{RankState}
-pub use Rattle.core_check_law.proofs.Tokens.{at_most}
+pub use Rattle.core_world.proofs.Tokens.{at_most}
 pub use Rattle.core_inline.specs.Inline.{IsEnd, IsInline, IsOpen, IsStart, IsTold, Run, batch_of, finish_answer, link_of, seat_by, zeroth}
 pub use Rattle.core_inline.specs.Left.{IsLeft, left_at, left_with}
 pub use Rattle.core_inline.specs.inside.Fields.{IsInside, run_of}

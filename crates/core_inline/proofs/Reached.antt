@@ -9,8 +9,8 @@ use Rattle.core_inline.proofs.Prelude.{not, one, option_and_then, option_map, po
 use Rattle.core_inline.proofs.Prelude.{slice_index_or, some_there, stamp_limit, subst, suc, sym, taken, told, true, zero, zeroth, ℕ, ◌&&◌}
 use Rattle.core_inline.proofs.Prelude.{◌+◌, ◌<◌, ◌==◌, ◌||◌, ◌∙◌, ◌∷◌, ◌≡◌, ◌≤◌}
 use Rattle.adlb_unit.specs.Links.{is_within, place_of}
-use Rattle.core_bound_law.proofs.Clocks.{serve_stays}
-use Rattle.core_bound_law.proofs.Lists.{same_each}
+use Rattle.core_world.proofs.Clocks.{serve_stays}
+use Rattle.core_world.proofs.Lists.{same_each}
 use Rattle.core_law.proofs.Fifo.{post_other}
 use Rattle.core_law.proofs.InLine.{every_run_in_line}
 use Rattle.core_law.proofs.UnpushedUnits.{one_not}
@@ -20,8 +20,8 @@ use Rattle.core_law.specs.Letters.{is_finish}
 use Rattle.core_law.specs.Measures.{measure, weigh}
 use Rattle.core_law.specs.Own.{IsClient, IsPool}
 use Rattle.core_law.specs.Well.{IsSquare}
-use Rattle.core_progress_law.proofs.Always.{always_ends}
-use Rattle.core_progress_law.specs.Ended.{IsEnded}
+use Rattle.core_world.proofs.Always.{always_ends}
+use Rattle.core_world.specs.Ended.{IsEnded}
 use Rattle.server_law.specs.Step.{next_stamp, serve}
 use Rattle.adlb_unit.specs.declared.actors.Actor.TheVariants as by
 use Rattle.core_run.specs.declared.events.Event.TheVariants as occurs

@@ -2,8 +2,8 @@
 use Rattle.adlb_unit.specs.declared.actors.Actor.{Actor}
 use Rattle.adlb_unit.specs.declared.configs.Config.{Config}
 use Rattle.adlb_unit.specs.declared.names.Rank.{Rank}
-use Rattle.core_bound_law.proofs.Bound.{begun_count, few_events}
-use Rattle.core_bound_law.specs.Bounds.{begun, calls_begun}
+use Rattle.core_wish_law.proofs.Bound.{begun_count, few_events}
+use Rattle.core_wish_law.specs.Bounds.{begun, calls_begun}
 use Rattle.core_progress_law.proofs.Along.{every_run_goes, every_run_goes_alone}
 use Rattle.core_progress_law.proofs.Enabled.{delivery, free_begins, free_rank, none_under_way}
 use Rattle.core_progress_law.proofs.Ended.{still_ends, still_ends_alone}

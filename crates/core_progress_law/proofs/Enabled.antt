@@ -5,9 +5,9 @@ use Rattle.adlb_unit.specs.declared.actors.Actor.{Actor}
 use Rattle.adlb_unit.specs.declared.configs.Config.{Config}
 use Rattle.adlb_unit.specs.declared.letters.Letter.{Letter}
 use Rattle.adlb_unit.specs.declared.names.Rank.{Rank}
-use Rattle.core_bound_law.proofs.Bound.{few_events}
-use Rattle.core_bound_law.proofs.Stamps.{front_up_to}
-use Rattle.core_bound_law.specs.Bounds.{begun}
+use Rattle.core_wish_law.proofs.Bound.{few_events}
+use Rattle.core_wish_law.proofs.Stamps.{front_up_to}
+use Rattle.core_wish_law.specs.Bounds.{begun}
 use Rattle.core_check_law.proofs.Expected.{none_is_ever_stuck}
 use Rattle.core_law.proofs.Sums.{place_actor, place_below}
 use Rattle.core_law.specs.Measures.{actor}

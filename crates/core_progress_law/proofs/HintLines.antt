@@ -5,7 +5,7 @@ use Rattle.adlb_unit.specs.declared.letters.Letter.{Letter}
 use Rattle.adlb_unit.specs.declared.letters.Sending.{Sending}
 use Rattle.adlb_unit.specs.declared.messages.Message.{Message}
 use Rattle.adlb_unit.specs.declared.names.Rank.{Rank}
-use Rattle.core_bound_law.proofs.Wishes.{wishes_of}
+use Rattle.core_wish_law.proofs.Wishes.{wishes_of}
 use Rattle.core_law.proofs.Fifo.{letters_for}
 use Rattle.core_law.proofs.Sums.{weigh-append}
 use Rattle.core_law.specs.Letters.{one, remote_letter}

@@ -10,8 +10,8 @@ use Rattle.adlb_unit.specs.declared.names.Rank.{Rank}
 use Rattle.adlb_unit.specs.declared.names.Server.{Server}
 use Rattle.adlb_unit.specs.declared.units.Unit.{Unit}
 use Rattle.bag_ledger.specs.Runs.{note_of}
-use Rattle.core_bound_law.proofs.Wishes.{AreSingle, KeepSingle, begins_single, few_wishes, fewer, off, single_kept, wishes_of}
-use Rattle.core_bound_law.proofs.Wishes.{wishes_single}
+use Rattle.core_wish_law.proofs.Wishes.{AreSingle, KeepSingle, begins_single, few_wishes, fewer, off, single_kept, wishes_of}
+use Rattle.core_wish_law.proofs.Wishes.{wishes_single}
 use Rattle.core_check_law.proofs.Homes.{each_of_all}
 use Rattle.core_check_law.proofs.Ticks.{after}
 use Rattle.core_law.proofs.Actors.{pool_beside, pool_there}

@@ -3,10 +3,10 @@ use Rattle.adlb_unit.specs.declared.actors.Actor.{Actor}
 use Rattle.adlb_unit.specs.declared.messages.Message.{Message}
 use Rattle.adlb_unit.specs.declared.names.UnitId.{UnitId}
 use Rattle.adlb_unit.specs.declared.units.Unit.{Unit}
-use Rattle.core_bound_law.proofs.Chains.{costs}
-use Rattle.core_bound_law.proofs.Rules.{acts_paid}
-use Rattle.core_bound_law.proofs.Wishes.{wishes_of}
-use Rattle.core_bound_law.specs.Costs.{allowance, cost}
+use Rattle.core_wish_law.proofs.Chains.{costs}
+use Rattle.core_wish_law.proofs.Rules.{acts_paid}
+use Rattle.core_wish_law.proofs.Wishes.{wishes_of}
+use Rattle.core_wish_law.specs.Costs.{allowance, cost}
 use Rattle.core_law.proofs.Sums.{weigh-append}
 use Rattle.core_law.specs.Letters.{one}
 use Rattle.core_law.specs.Measures.{weigh}

@@ -1,3 +1,15 @@
+pub use Rattle.core_check_law.proofs.Tokens
+pub use Rattle.core_wish_law.proofs.Lists
+pub use Rattle.core_wish_law.proofs.Bound
+pub use Rattle.core_wish_law.proofs.Clocks
+pub use Rattle.core_wish_law.proofs.Stamps
+pub use Rattle.core_law.proofs.InLine
+pub use Rattle.core_check_law.proofs.Expected
+pub use Rattle.core_law.proofs.EveryRun
+pub use Rattle.core_law.proofs.Lawful
+pub use Rattle.core_law.proofs.Posts
+pub use Rattle.core_law.proofs.StepResults
+pub use Rattle.core_check_law.proofs.Legal
 pub mod Alone
 pub mod AloneGoes
 pub mod Along

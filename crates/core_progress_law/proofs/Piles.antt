@@ -3,9 +3,9 @@ use Rattle.adlb_unit.specs.declared.actors.Actor.{Actor}
 use Rattle.adlb_unit.specs.declared.configs.Config.{Config}
 use Rattle.adlb_unit.specs.declared.messages.Message.{Message}
 use Rattle.adlb_unit.specs.declared.names.Server.{Server}
-use Rattle.core_bound_law.proofs.Bound.{credit_left}
-use Rattle.core_bound_law.specs.Bounds.{begun}
-use Rattle.core_bound_law.specs.Credits.{letter_credit, letters_credit}
+use Rattle.core_wish_law.proofs.Bound.{credit_left}
+use Rattle.core_wish_law.specs.Bounds.{begun}
+use Rattle.core_wish_law.specs.Credits.{letter_credit, letters_credit}
 use Rattle.core_law.proofs.Sums.{links_le}
 use Rattle.core_law.specs.Letters.{one}
 use Rattle.core_law.specs.Pushed.{letters_of}

@@ -2,7 +2,7 @@
 
 ghost use Rattle.std.specs.Prelude.{◌≤◌, ℕ, List};
 ghost use Rattle.adlb_unit.specs.declared.configs.Config.{Config};
-ghost use Rattle.core_bound_law.specs.Bounds.{begun};
+ghost use Rattle.core_wish_law.specs.Bounds.{begun};
 ghost use Rattle.core_progress_law.specs.Ended.{EndsWithin};
 ghost use Rattle.core_run.specs.declared.events.Event.{Event};
 ghost use Rattle.core_run.specs.Runs.{Runs};

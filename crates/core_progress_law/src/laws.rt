@@ -2,7 +2,7 @@
 
 ghost use Rattle.std.specs.Prelude.{◌≡◌, ◌<◌, ◌^◌, List, None};
 ghost use Rattle.adlb_unit.specs.declared.configs.Config.{Config};
-ghost use Rattle.core_bound_law.specs.Bounds.{calls_begun};
+ghost use Rattle.core_wish_law.specs.Bounds.{calls_begun};
 ghost use Rattle.core_progress_law.specs.Ended.{IsEnded, IsStill};
 ghost use Rattle.core_progress_law.specs.Going.{Goes};
 ghost use Rattle.core_run.specs.declared.events.Event.{Event};

@@ -4,7 +4,7 @@ ghost use Rattle.std.specs.Prelude.{◌≡◌, ◌≢◌, ◌<◌, ◌≤◌, �
 ghost use Rattle.adlb_unit.specs.declared.configs.Config.{Config};
 ghost use Rattle.adlb_unit.specs.declared.names.Rank.{Rank};
 ghost use Rattle.adlb_unit.specs.declared.names.Server.{Server};
-ghost use Rattle.core_bound_law.specs.Bounds.{begun};
+ghost use Rattle.core_wish_law.specs.Bounds.{begun};
 ghost use Rattle.core_progress_law.specs.Room.{hints_to, most_hints, most_letters, notices_to, to_rank, to_server};
 ghost use Rattle.core_run.specs.declared.events.Event.{Event};
 ghost use Rattle.core_run.specs.Runs.{Runs};

@@ -1,3 +1,10 @@
+pub use Rattle.core_bound_law.proofs.Lists
+pub use Rattle.core_bound_law.proofs.Bound
+pub use Rattle.core_bound_law.proofs.Chains
+pub use Rattle.core_bound_law.proofs.Clocks
+pub use Rattle.core_bound_law.proofs.Rules
+pub use Rattle.core_bound_law.proofs.Stamps
+pub use Rattle.core_bound_law.proofs.Wishes
 pub mod Agreed
 pub mod AskedOut
 pub mod Busy

@@ -1,3 +1,7 @@
+pub use Rattle.core_progress_law.proofs.Clocks
+pub use Rattle.core_progress_law.proofs.Lists
+pub use Rattle.core_progress_law.proofs.Tokens
+pub use Rattle.core_progress_law.proofs.Always
 pub mod Ended
 pub mod Many
 pub mod Posting

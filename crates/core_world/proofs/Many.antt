@@ -4,9 +4,9 @@ use Rattle.adlb_unit.specs.Links.{is_within, place_of}
 use Rattle.adlb_unit.specs.declared.actors.Actor.{Actor}
 use Rattle.adlb_unit.specs.declared.letters.Letter.{Letter}
 use Rattle.adlb_unit.specs.declared.notes.Trouble.{Trouble}
-use Rattle.core_bound_law.proofs.Bound.{begun_count, few_events}
-use Rattle.core_bound_law.proofs.Stamps.{front_up_to, stamps_up_to}
-use Rattle.core_bound_law.specs.Bounds.{calls_begun}
+use Rattle.core_progress_law.proofs.Bound.{begun_count, few_events}
+use Rattle.core_progress_law.proofs.Stamps.{front_up_to, stamps_up_to}
+use Rattle.core_progress_law.specs.Bounds.{calls_begun}
 use Rattle.core_run.specs.World.{World, link}
 use Rattle.core_run.specs.declared.events.Event.{Event}
 use Rattle.core_world.specs.Applied.{Stops, event_stamp, fault_of, front_stamp}

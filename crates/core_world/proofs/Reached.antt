@@ -22,14 +22,14 @@ use Rattle.core_run.specs.declared.events.Event.TheVariants as occurs
 use Rattle.core_run.specs.Runs.{Runs, is_over}
 use Rattle.core_run.specs.World.{Links, World, after_rank, after_server, client_of, handle, happens, has_ended, link, pool_of}
 use Rattle.core_run.specs.World.{rank_named, server_named, start, taken}
-use Rattle.core_law.specs.Lines.{AreStamped, clock_of}
-use Rattle.core_law.proofs.InLine.{every_run_in_line}
-use Rattle.core_check_law.proofs.Expected.{none_is_ever_stuck}
+use Rattle.core_progress_law.specs.Lines.{AreStamped, clock_of}
+use Rattle.core_progress_law.proofs.InLine.{every_run_in_line}
+use Rattle.core_progress_law.proofs.Expected.{none_is_ever_stuck}
 use Rattle.core_world.specs.Applied.{IsEnabled, event_stamp, front_stamp}
 use Rattle.core_world.specs.Stage.{IsReached}
 use Rattle.core_world.proofs.Running.{runs_more}
 use Rattle.core_world.proofs.Stopping.{happens_config, some_same}
-use Rattle.core_bound_law.proofs.Clocks.{begin_leaves, hear_leaves, serve_stays}
+use Rattle.core_progress_law.proofs.Clocks.{begin_leaves, hear_leaves, serve_stays}
 
 -- The last stamp of each actor is one that is given.
 

@@ -1,6 +1,6 @@
 -- A world to which a run leads has ended where nothing can happen in it.
 use Rattle.adlb_unit.specs.declared.names.Server.{Server}
-use Rattle.core_bound_law.specs.Bounds.{calls_begun}
+use Rattle.core_progress_law.specs.Bounds.{calls_begun}
 use Rattle.core_progress_law.proofs.Always.{dead_ends}
 use Rattle.core_run.specs.World.{World, happens, has_ended, pool_of}
 use Rattle.core_run.specs.declared.events.Event.{Event}

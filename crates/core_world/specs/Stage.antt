@@ -9,7 +9,7 @@ use Rattle.server_law.specs.State.{ServerModel}
 use Rattle.core_run.specs.declared.events.Event.{Event}
 use Rattle.core_run.specs.Runs.{Runs}
 use Rattle.core_run.specs.World.{World, start}
-use Rattle.core_law.specs.Lines.{clock_of}
+use Rattle.core_progress_law.specs.Lines.{clock_of}
 use Rattle.core_world.specs.declared.stages.Stage.TheInside.{Inside}
 
 abbrev pub world_of : Inside → World

@@ -3,7 +3,7 @@
 ghost use Rattle.std.specs.Prelude.{◌≡◌, ◌<◌, ◌≤◌, ◌^◌, ◌↔◌, ℕ, None, Some, Err, IfErr, IfOk, OnOk, length};
 ghost use Rattle.adlb_unit.specs.Limits.{stamp_limit};
 ghost use Rattle.adlb_unit.specs.declared.notes.Trouble.{Trouble};
-ghost use Rattle.core_bound_law.specs.Bounds.{calls_begun};
+ghost use Rattle.core_progress_law.specs.Bounds.{calls_begun};
 ghost use Rattle.core_run.specs.declared.events.Event.{Event};
 ghost use Rattle.core_run.specs.Runs.{run};
 ghost use Rattle.core_run.specs.World.{happens};

@@ -1,7 +1,7 @@
 //! A run that is stepped by hand.
 
 ghost use Rattle.std.specs.Prelude.{◌≡◌, ◌<◌, ◌^◌, ◌↔◌, All, IfOk, IsTrue, None, is_some, length};
-ghost use Rattle.core_bound_law.specs.Bounds.{calls_begun};
+ghost use Rattle.core_progress_law.specs.Bounds.{calls_begun};
 ghost use Rattle.core_run.specs.declared.events.Event.{Event};
 ghost use Rattle.core_run.specs.Runs.{transcript};
 ghost use Rattle.core_run.specs.World.{client_of, happens, pool_of};

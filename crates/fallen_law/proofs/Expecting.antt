@@ -5,14 +5,14 @@ use Rattle.adlb_unit.specs.declared.actors.Actor.{Actor}
 use Rattle.adlb_unit.specs.declared.configs.Config.{Config}
 use Rattle.adlb_unit.specs.declared.letters.Letter.{Letter}
 use Rattle.core_bound_law.proofs.Bound.{few_events}
-use Rattle.core_bound_law.proofs.Stamps.{front_up_to}
+use Rattle.core_bound_law.proofs.Stamps.{front_up_to, stamps_up_to}
 use Rattle.core_bound_law.specs.Bounds.{begun}
 use Rattle.core_check_law.proofs.Expected.{none_is_ever_stuck}
 use Rattle.core_law.proofs.EveryRun.{run_config}
 use Rattle.core_law.proofs.Sums.{place_below}
 use Rattle.core_run.specs.Runs.{is_over}
 use Rattle.core_run.specs.World.{World, after_server, client_of, handle, happens, has_ended, link, pool_of, taken}
-use Rattle.fallen_law.specs.Fallen.{Expects, GoesOn, IsNext}
+use Rattle.fallen_law.specs.Fallen.{Expects, GoesOn, IsNext, WouldBear, last_stamp}
 use Rattle.merge_history.specs.Events.{Event, OfActor}
 use Rattle.merge_history.specs.Merging.{journal_at}
 use Rattle.merge_history.specs.Own.{Finals, IsCoreRun, got, occurrence}
@@ -22,7 +22,7 @@ use Rattle.server_law.specs.Carried.{Served}
 use Rattle.server_law.specs.State.{ServerModel}
 use Rattle.server_law.specs.Step.{serve}
 use Rattle.std.proofs.Common.{Bool, List, None, Option, Some, ap, arith, cond, false, length, map, not, refl, subst, sym, true, ◌&&◌, ◌*◌}
-use Rattle.std.proofs.Common.{◌+◌, ◌<◌, ◌∙◌, ◌∷◌, ◌≡◌, ◌≤◌}
+use Rattle.std.proofs.Common.{inl, inr, ℕ, ◌+◌, ◌<◌, ◌^◌, ◌∙◌, ◌∷◌, ◌≡◌, ◌≤◌}
 use Rattle.std.proofs.lemmas.Bool.{ltb-true}
 use Rattle.std.proofs.lemmas.List.{append_cancel_left, length-map}
 use Rattle.std.specs.Option.{option_map}
@@ -126,3 +126,35 @@ few_happen config finals journals events run =
     let few = few_events config (map (λ (x : Actor × Event). occurrence x.0 x.1.cause) events) (run.last) run.runs in
     let long = length-map events (λ (x : Actor × Event). occurrence x.0 x.1.cause) in
     omega arith
+
+-- the stamp of each actor's last event is at most their number
+clock_low : (config : Config) (finals : Finals) (journals : List OfActor) (events : List (Actor × Event)) (actor : Actor)
+    → IsCoreRun config finals journals events → is_within config actor ≡ true → last_stamp finals actor ≤ length events
+clock_low config finals journals events actor run within = by_actor actor within
+  where
+    by_actor : (a : Actor) → is_within config a ≡ true → last_stamp finals a ≤ length events
+    by_actor (by.Rank a) within =
+        let low = stamps_up_to config (map (λ (x : Actor × Event). occurrence x.0 x.1.cause) events) (run.last) (by.Rank a) run.runs in
+        let same = ap (λ (s : ClientModel). s.clock) (run.ranks a (ltb-true a.0 config.ranks within)) in
+        let long = length-map events (λ (x : Actor × Event). occurrence x.0 x.1.cause) in
+        omega arith
+    by_actor (by.Server a) within =
+        let low = stamps_up_to config (map (λ (x : Actor × Event). occurrence x.0 x.1.cause) events) (run.last) (by.Server a) run.runs in
+        let same = ap (λ (s : ServerModel). s.clock) (run.servers a (ltb-true a.0 config.servers within)) in
+        let long = length-map events (λ (x : Actor × Event). occurrence x.0 x.1.cause) in
+        omega arith
+
+-- a stamp past the last one that is given comes only after very many calls
+pub late_many : (config : Config) (finals : Finals) (journals : List OfActor) (events : List (Actor × Event)) (actor : Actor) (stamp : ℕ)
+    → IsCoreRun config finals journals events → is_within config actor ≡ true → WouldBear config finals journals actor stamp
+    → stamp_limit ≤ stamp → 2 ^ 34 ≤ begun (map (λ (x : Actor × Event). occurrence x.0 x.1.cause) events)
+late_many config finals journals events actor stamp run within bears late =
+    let clock = clock_low config finals journals events actor run within in
+    let few = few_happen config finals journals events run in
+    elim bears [
+      | inl call ↦ omega (arith, call, clock, few)
+      | inr came ↦
+          let low = stamp_low config finals journals events run came.0 actor came.1 came.2 came.3 within came.4 in
+          let is = came.5 in
+          omega (arith, is, low, clock, few)
+    ]

@@ -1,8 +1,8 @@
 -- Journals of actors that may have failed: what went through an actor's mailboxes begins with what its journal says.
-use Rattle.std.specs.Prelude.{◌≡◌, ◌<◌, ℕ, Bool, true, false, List, ◌∷◌, ◌++◌, is_some}
+use Rattle.std.specs.Prelude.{◌≡◌, ◌⊎◌, ◌<◌, ◌+◌, ℕ, Bool, true, false, List, ◌∷◌, ◌++◌, is_some}
 use Rattle.std.specs.List.{AllByRecursion as Each}
 use mathlib.Core.List.{IsPrefix}
-use Rattle.adlb_unit.specs.Links.{place_of}
+use Rattle.adlb_unit.specs.Links.{is_within, place_of, stamp_after}
 use Rattle.adlb_unit.specs.declared.actors.Actor.{Actor}
 use Rattle.adlb_unit.specs.declared.actors.Actor.TheVariants as by
 use Rattle.adlb_unit.specs.declared.configs.Config.{Config}
@@ -46,3 +46,15 @@ abbrev pub IsNext : Config → List OfActor → Actor → Actor → Letter → L
 IsNext config journals from to letter rest =
     sends_to config (place_of config to) (journal_at journals (place_of config from))
     ≡ got config (place_of config from) (journal_at journals (place_of config to)) ++ letter ∷ rest
+
+-- the stamp of the actor's last event
+abbrev pub last_stamp : Finals → Actor → ℕ
+last_stamp finals (by.Rank rank) = (finals.client rank).clock
+last_stamp finals (by.Server server) = (finals.pool server).clock
+
+-- the actor's next event would bear this stamp: that of a call, or that of the next letter of a link
+abbrev pub WouldBear : Config → Finals → List OfActor → Actor → ℕ → Type 0
+WouldBear config finals journals actor stamp =
+    (stamp ≡ last_stamp finals actor + 1)
+    ⊎ ((from : Actor) × (letter : Letter) × (rest : List Letter) × (is_within config from ≡ true)
+    × IsNext config journals from actor letter rest × (stamp ≡ stamp_after (last_stamp finals actor) letter))

@@ -1,6 +1,6 @@
 //! What journals say whatever their actors met.
 
-ghost use Rattle.std.specs.Prelude.{◌≡◌, ◌<◌, ◌≤◌, ◌+◌, ◌*◌, ℕ, List, true, map, length};
+ghost use Rattle.std.specs.Prelude.{◌≡◌, ◌<◌, ◌≤◌, ◌+◌, ◌*◌, ◌^◌, ℕ, List, true, map, length};
 ghost use mathlib.Core.List.{IsPrefix};
 ghost use Rattle.adlb_unit.specs.Limits.{stamp_limit};
 ghost use Rattle.adlb_unit.specs.Links.{is_within};
@@ -13,14 +13,15 @@ ghost use Rattle.rank_mail.specs.Mailboxes.{letters_of};
 ghost use Rattle.merge_history.specs.Events.{Event, OfActor};
 ghost use Rattle.merge_history.specs.Own.{Finals, IsCoreRun, Walks, got, occurrence, sent};
 ghost use Rattle.actor_desk.specs.Desks.{DeskModel, sent_at};
-ghost use Rattle.fallen_law.specs.Fallen.{Begins, Expects, GoesOn, IsNext};
+ghost use Rattle.fallen_law.specs.Fallen.{Begins, Expects, GoesOn, IsNext, WouldBear};
 
 /// On each link what a journal got is a prefix of what the other sent, if what went through the mailboxes of each begins with
 /// what its journal says, and the receiver's is its own run. So journals of actors that failed compose, too (`links`). Where
 /// journals are a run of all actors, up to whatever moment, an actor that has not ended has a step for the next letter that it
 /// has not got, if the stamp is below its limit. So no letter comes that is not expected (`expected`). Such a run has at most
 /// `8192 * (n + 1)` events if `n` calls were begun in it (`few`). The stamp of the next letter is at most the number of events
-/// (`stamps`).
+/// (`stamps`). So where the next event of an actor would bear a stamp past the last one that is given, 2^34 calls were begun
+/// (`late`).
 pub fn fallen_laws()
     ensures links { (config : Config) (finals : Finals) (me : Actor) (from to : ℕ) (d e : DeskModel) → d.config ≡ config →
         e.config ≡ config → from < actors config → to < actors config → Begins d → Begins e → Walks config finals me e.events →
@@ -35,4 +36,8 @@ pub fn fallen_laws()
     ensures stamps { (config : Config) (finals : Finals) (journals : List OfActor) (events : List (Actor × Event)) (from to : Actor)
         (letter : Letter) (rest : List Letter) → IsCoreRun config finals journals events → is_within config from ≡ true →
         is_within config to ≡ true → IsNext config journals from to letter rest → letter.stamp ≤ length events }
+    ensures late { (config : Config) (finals : Finals) (journals : List OfActor) (events : List (Actor × Event)) (actor : Actor)
+        (stamp : ℕ) → IsCoreRun config finals journals events → is_within config actor ≡ true →
+        WouldBear config finals journals actor stamp → stamp_limit ≤ stamp →
+        2 ^ 34 ≤ begun (map (λ (x : Actor × Event). occurrence x.0 x.1.cause) events) }
 {}

@@ -1,6 +1,6 @@
 -- What follows of a run over a flow: its outcomes bring values of the flow, and all its work is done.
 use Rattle.std.proofs.Common.{◌≡◌, ◌<◌, ℕ, List, Result, Ok, Err, IfOk, Some, arith}
-use Rattle.adlb_threads.specs.Reports.{Reported}
+use Rattle.run_command.specs.Reports.{Reported}
 use Rattle.adlb_unit.specs.declared.names.Rank.{Rank}
 use Rattle.run_command.specs.Kept.{HasRun, IsWorkedUp}
 use Rattle.flow_law.specs.declared.Definition.{Definition}

@@ -7,10 +7,9 @@ ghost use Rattle.run_command.specs.Kept.{HasRun, IsWorkedUp};
 ghost use Rattle.flow_command.specs.Flows.{ArePrograms, FollowsFlow};
 
 use crate::inputs::FlowInput;
-use adlb_threads::Report;
 use adlb_unit::NoMemory;
 use flow_app::{FlowOutcome, finish_flow};
-use run_command::Kept;
+use run_command::{Kept, Report};
 use std::alloc::Global;
 
 /// The text of the values of this flow (`flow_text`), by a run over it of which this is kept. All work of the run is done. Its only error

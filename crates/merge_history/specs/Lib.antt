@@ -1,3 +1,4 @@
+pub use Rattle.core_run.specs.World
 pub mod Events
 pub mod Kept
 pub mod Merging

@@ -8,9 +8,9 @@ ghost use Rattle.merge_history.specs.Kept.{kept_of};
 ghost use Rattle.merge_history.specs.Merging.{AllClimb, CanMerge, IsLedgerOf, stamp_at};
 ghost use Rattle.merge_history.specs.Own.{Compose, Finals, IsOneHistory};
 
-use crate::fronts::fronts_of;
+use crate::fronts::{Front, fronts_of};
 use adlb_unit::NoMemory;
-use packed_ledger::{Kept, Ledger, Unread};
+use packed_ledger::{Kept, Ledger};
 use std::alloc::Global;
 
 /// The entries that all actors of a run kept, in one ledger. They are by stamp, among equal stamps by actor, the ranks
@@ -44,7 +44,7 @@ fn merged_entries(alloc: Global, kept: Vec<Kept>) -> Result<Ledger, NoMemory>
 }
 
 // The first of those that begin with the lowest stamp.
-fn least(fronts: &[Unread]) -> Option<usize>
+fn least(fronts: &[Front]) -> Option<usize>
     ensures { IsLeast stamp_at fronts.now result }
 {
     let mut best: Option<(usize, u64)> = None;

@@ -1,3 +1,4 @@
+pub use Rattle.adlb_threads.specs.Reports
 pub mod Ends
 pub mod Heard
 pub mod inside

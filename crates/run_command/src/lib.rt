@@ -23,6 +23,7 @@ mod runs;
 mod threads;
 mod writing;
 
+pub use adlb_threads::Report;
 pub use commands::{Command, ReadFault};
 pub use faults::{Ended, Fault};
 pub use inline::run_inline;

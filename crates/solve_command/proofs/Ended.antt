@@ -1,7 +1,7 @@
 -- What follows from how a run over puzzles and batches ended, where no read failed.
 use Rattle.std.proofs.Common.{◌≡◌, ◌⊎◌, ◌<◌, ◌≤◌, ◌+◌, ◌^◌, ℕ, Bool, true, List, length, Option, Some, None, sym, ap, ◌∙◌, arith}
 use Rattle.adlb_io.specs.Outside.{Rises}
-use Rattle.adlb_threads.specs.Reports.{Reported}
+use Rattle.run_command.specs.Reports.{Reported}
 use Rattle.job_report.specs.declared.outcomes.Outcome.{Outcome}
 use Rattle.job_text.specs.declared.faults.LineWhy.{LineWhy}
 use Rattle.job_text.specs.declared.jobs.Job.{Job}

@@ -4,7 +4,7 @@ use Rattle.std.proofs.Common.{subst, arith, slice_get, slice_index}
 use Rattle.std.proofs.lemmas.Option.{slice_get_within}
 use Rattle.std.proofs.lemmas.List.Elements.{All-cons, All-head, All-nil, All-tail}
 use Rattle.std.proofs.lemmas.List.Sums.{sum_by-cons}
-use Rattle.adlb_threads.specs.Reports.{Reported}
+use Rattle.run_command.specs.Reports.{Reported}
 use Rattle.adlb_unit.specs.declared.names.Rank.{Rank}
 use Rattle.balance_law.proofs.Whole.{balanced}
 use Rattle.job_report.specs.Jobs.{puzzles}

@@ -1,6 +1,6 @@
 -- The ends of a run for which an allocation failed before anything was done.
 use Rattle.std.proofs.Common.{◌≡◌, ◌≤◌, ◌^◌, ℕ, Bool, true, List, Some, None}
-use Rattle.adlb_threads.specs.Reports.{Reported}
+use Rattle.run_command.specs.Reports.{Reported}
 use Rattle.adlb_unit.specs.declared.configs.Config.{Config}
 use Rattle.job_report.specs.declared.outcomes.Outcome.{Outcome}
 use Rattle.made_jobs.specs.Made.{made_text}

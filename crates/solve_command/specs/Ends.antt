@@ -1,6 +1,6 @@
 -- How `solve` and `drill` end.
 use Rattle.std.specs.Prelude.{◌≡◌, ◌≤◌, ◌^◌, ℕ, Bool, true, List, Option, Some}
-use Rattle.adlb_threads.specs.Reports.{Reported}
+use Rattle.run_command.specs.Reports.{Reported}
 use Rattle.adlb_unit.specs.declared.configs.Config.{Config}
 use Rattle.job_report.specs.declared.outcomes.Outcome.{Outcome}
 use Rattle.job_text.specs.declared.faults.LineWhy.{LineWhy}

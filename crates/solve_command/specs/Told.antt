@@ -1,6 +1,6 @@
 -- What is written of a run over puzzles and batches.
 use Rattle.std.specs.Prelude.{◌≡◌, ◌++◌, ℕ, Bool, List, [], length, if◌then◌else◌, codes, decimal}
-use Rattle.adlb_threads.specs.Reports.{Reported}
+use Rattle.run_command.specs.Reports.{Reported}
 use Rattle.job_report.specs.Report.{IsReport}
 use Rattle.job_report.specs.Summary.{summary}
 use Rattle.job_report.specs.declared.outcomes.Outcome.{Outcome}

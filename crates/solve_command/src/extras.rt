@@ -1,15 +1,15 @@
 //! What follows the report.
 
 ghost use Rattle.std.specs.Prelude.{◌≡◌, ◌++◌, ℕ, List, OnOk};
-ghost use Rattle.adlb_threads.specs.Reports.{Reported};
+ghost use Rattle.run_command.specs.Reports.{Reported};
 ghost use Rattle.job_report.specs.declared.outcomes.Outcome.{Outcome};
 ghost use Rattle.solve_command.specs.Told.{behind, ledger_behind, stats_behind};
 
-use adlb_threads::Report;
 use adlb_unit::{NoMemory, or_no_memory};
 use job_report::Outcome;
 use ledger_file::write_ledger;
 use ledger_stats::append_stats;
+use run_command::Report;
 use std::alloc::Global;
 
 /// What is written after the report of a run: bytes that follow from what is kept of it.

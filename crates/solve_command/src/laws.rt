@@ -2,7 +2,7 @@
 
 ghost use Rattle.std.specs.Prelude.{◌≡◌, ◌⊎◌, ◌≤◌, ◌<◌, ◌+◌, ◌^◌, ℕ, Bool, true, List, Option, Some, None, length};
 ghost use Rattle.adlb_io.specs.Outside.{Rises};
-ghost use Rattle.adlb_threads.specs.Reports.{Reported};
+ghost use Rattle.run_command.specs.Reports.{Reported};
 ghost use Rattle.job_report.specs.declared.outcomes.Outcome.{Outcome};
 ghost use Rattle.job_text.specs.declared.faults.LineWhy.{LineWhy};
 ghost use Rattle.job_text.specs.Jobs.{input_jobs, input_refused};

@@ -5,12 +5,12 @@ ghost use Rattle.job_report.specs.Whole.{AreWhole, made_in};
 ghost use Rattle.solve_command.specs.Told.{IsReported, IsSummed, IsTold, drill_line};
 
 use crate::extras::Tail;
-use adlb_threads::Report;
 use adlb_unit::{NoMemory, or_no_memory};
 use itoa::Buffer;
 use job_report::{Outcome, render, summarize};
 use job_text::Jobs;
 use puzzle_app::Settings;
+use run_command::Report;
 use std::alloc::Global;
 
 /// What is written of a run.

@@ -1,6 +1,6 @@
 -- What follows of a run over cities: its outcomes hold a least tour, and all its work is done.
 use Rattle.std.proofs.Common.{◌≡◌, ◌<◌, ℕ, List, Result, Ok, Err, IfOk, subst, arith}
-use Rattle.adlb_threads.specs.Reports.{Reported}
+use Rattle.run_command.specs.Reports.{Reported}
 use Rattle.adlb_unit.specs.declared.names.Rank.{Rank}
 use Rattle.balance_law.proofs.Whole.{balanced}
 use Rattle.least_law.proofs.Joining.{joined_freed, joined_least, joined_spent}

@@ -6,9 +6,8 @@ ghost use Rattle.run_command.specs.Kept.{HasRun, IsWorkedUp};
 ghost use Rattle.tour_command.specs.Tours.{ArePrograms, FollowsTours, TellsLeast};
 ghost use Rattle.tour_search.specs.Cities.{costs};
 
-use adlb_threads::Report;
 use adlb_unit::NoMemory;
-use run_command::Kept;
+use run_command::{Kept, Report};
 use std::alloc::Global;
 use tour_app::{TourOutcome, render_tour};
 use tour_search::Cities;

@@ -1,4 +1,4 @@
-use Rattle.fallen_law.proofs.Expecting.{expected, few_happen, stamp_low}
+use Rattle.fallen_law.proofs.Expecting.{expected, few_happen, late_many, stamp_low}
 use Rattle.fallen_law.proofs.Fallen.{link_of}
 use Rattle.fallen_law.proofs.laws.fallen_laws.Goals as goal
 
@@ -10,4 +10,5 @@ returns c = record {
   few = few_happen;
   stamps = λ config finals journals events from to letter rest run f t next.
       stamp_low config finals journals events run from to letter rest f t next;
+  late = late_many;
 }

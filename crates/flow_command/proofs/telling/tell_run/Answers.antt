@@ -1,5 +1,5 @@
 use Rattle.std.proofs.Common.{sym, subst}
-use Rattle.adlb_threads.specs.Reports.{Reported}
+use Rattle.run_command.specs.Reports.{Reported}
 use Rattle.run_command.specs.Kept.{IsWorkedUp}
 use Rattle.flow_app.specs.Finishing.{AreValues}
 use Rattle.flow_app.specs.declared.finishing.FlowOutcome.{FlowOutcome}

@@ -1,5 +1,5 @@
 use Rattle.std.proofs.Common.{List, sym, subst, ap, ◌≡◌, ◌∙◌}
-use Rattle.adlb_threads.specs.Reports.{Reported}
+use Rattle.run_command.specs.Reports.{Reported}
 use Rattle.flow_law.specs.declared.Definition.{Definition}
 use Rattle.flow_app.specs.Finishing.{AreValues}
 use Rattle.flow_app.specs.declared.finishing.FlowOutcome.{FlowOutcome}

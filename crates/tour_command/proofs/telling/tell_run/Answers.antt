@@ -1,5 +1,5 @@
 use Rattle.std.proofs.Common.{sym, subst}
-use Rattle.adlb_threads.specs.Reports.{Reported}
+use Rattle.run_command.specs.Reports.{Reported}
 use Rattle.run_command.specs.Kept.{IsWorkedUp}
 use Rattle.tour_app.specs.Found.{HoldLeast, all_found}
 use Rattle.tour_app.specs.declared.outcomes.TourOutcome.{TourOutcome}

@@ -1,5 +1,5 @@
 use Rattle.std.proofs.Common.{List, Vec, Global, ℕ, sym, subst, ap, ◌≡◌, ◌∙◌}
-use Rattle.adlb_threads.specs.Reports.{Reported}
+use Rattle.run_command.specs.Reports.{Reported}
 use Rattle.tour_app.specs.Found.{HoldLeast, all_found}
 use Rattle.tour_app.specs.declared.outcomes.TourOutcome.{TourOutcome}
 use Rattle.tour_command.proofs.Joining.{told_least}

@@ -3,7 +3,7 @@ use Rattle.std.proofs.lemmas.Result.{err_from_is_err_and}
 use Rattle.rank_client.specs.inside.{gives}
 use Rattle.core_run.specs.World.{World, client_of}
 use Rattle.core_world.proofs.Stopping.{call_stops}
-use Rattle.core_bound_law.proofs.Clocks.{begin_leaves}
+use Rattle.core_progress_law.proofs.Clocks.{begin_leaves}
 use Rattle.core_world.proofs.Wholes.{whole_client, whole_rank}
 use Rattle.core_world.proofs.stages.Stage.begin.Goals as goal
 

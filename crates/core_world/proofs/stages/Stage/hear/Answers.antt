@@ -4,7 +4,7 @@ use Rattle.rank_client.specs.inside.{gives}
 use Rattle.core_run.specs.World.{World, client_of}
 use Rattle.core_world.specs.Stage.{IsWhole}
 use Rattle.core_world.proofs.Stopping.{answer_stops, hear_expected}
-use Rattle.core_bound_law.proofs.Clocks.{hear_leaves}
+use Rattle.core_progress_law.proofs.Clocks.{hear_leaves}
 use Rattle.core_world.proofs.Wholes.{whole_client, whole_rank, whole_taken}
 use Rattle.core_world.proofs.stages.Stage.hear.Goals as goal
 

@@ -3,7 +3,7 @@ use Rattle.std.proofs.lemmas.Result.{err_from_is_err_and}
 use Rattle.core_run.specs.World.{World, pool_of}
 use Rattle.core_world.specs.Stage.{IsWhole}
 use Rattle.core_world.proofs.Stopping.{given_happens, half_stops, request_stops, serve_expected}
-use Rattle.core_bound_law.proofs.Clocks.{serve_stays}
+use Rattle.core_progress_law.proofs.Clocks.{serve_stays}
 use Rattle.core_world.proofs.Wholes.{whole_server, whole_pool, whole_taken}
 use Rattle.core_world.proofs.stages.Stage.serve.Goals as goal
 
