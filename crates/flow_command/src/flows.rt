@@ -1,12 +1,12 @@
 //! Runs over flows, as a command.
 
-ghost use Rattle.std.specs.Prelude.{◌≡◌, ◌<◌, IfOk, length};
+ghost use Rattle.std.specs.Prelude.{◌≡◌, ◌≤◌, ◌<◌, [], OnOk, length, vec_capacity};
 ghost use Rattle.flow_law.specs.Flows.{flow_text};
 ghost use Rattle.flow_command.specs.Flows.{ArePrograms, HasFlow, RefusesLine};
 
 use crate::inputs::FlowInput;
 use crate::telling::tell_run;
-use adlb_unit::{NoMemory, or_no_memory};
+use adlb_unit::NoMemory;
 use flow_app::{FlowOutcome, FlowWhy};
 use flow_work::FlowProgram;
 use run_command::{Command, Kept, ReadFault};
@@ -37,13 +37,14 @@ impl Command for Flows {
         FlowInput::read(alloc, bytes)
     }
 
-    fn programs(
+    fn fill(
         &self,
         alloc: Global,
+        programs: &mut Vec<FlowProgram>,
         ranks: u32,
         asked: &FlowInput,
-    ) -> Result<Vec<FlowProgram>, NoMemory> {
-        programs_of(alloc, ranks, asked)
+    ) -> Result<(), NoMemory> {
+        fill(alloc, programs, ranks, asked)
     }
 
     fn tell(
@@ -58,17 +59,23 @@ impl Command for Flows {
     ghost takes = { λ flows flow many heard. tt };
 }
 
-// The programs of the ranks: the first has the flow. Its only error is `NoMemory`.
-fn programs_of(alloc: Global, ranks: u32, asked: &FlowInput) -> Result<Vec<FlowProgram>, NoMemory>
+// Adds the programs of the ranks to an empty list: the first has the flow. Its only error is `NoMemory`.
+fn fill(
+    alloc: Global,
+    programs: &mut Vec<FlowProgram>,
+    ranks: u32,
+    asked: &FlowInput,
+) -> Result<(), NoMemory>
     requires some { 0 < ranks }
-    ensures all { IfOk result (λ programs. length programs.items ≡ ranks) }
-    ensures programs { IfOk result (λ programs. ArePrograms ranks asked.now programs.items) }
+    requires empty { programs.old.items ≡ [] }
+    requires room { ranks ≤ vec_capacity programs.old }
+    ensures all { OnOk result (length programs.new.items ≡ ranks) }
+    ensures programs { OnOk result (ArePrograms ranks asked.now programs.new.items) }
 {
     let flow = asked.again(alloc)?;
-    let mut programs = or_no_memory(Vec::with_capacity(alloc, ranks as usize))?;
     programs.push_reserved(FlowProgram::new(alloc, ranks, Some(flow)));
     for _rank in 1..ranks {
         programs.push_reserved(FlowProgram::new(alloc, ranks, None));
     }
-    Ok(programs)
+    Ok(())
 }

@@ -1,6 +1,7 @@
 -- The books of a rank that works: which call it makes next, and what the answer leaves.
 use Rattle.std.specs.Prelude.{◌≡◌, ◌↔◌, ℕ, ℤ, Bool, true, false, List, [], ◌∷◌, ◌++◌, map, Option, Some, None}
 use Rattle.std.specs.List.{flat_map}
+use Rattle.std.specs.Option.{unwrap_or}
 use Rattle.adlb_unit.specs.declared.names.Target.{Target}
 use Rattle.adlb_unit.specs.declared.notes.End as told_end
 use Rattle.adlb_unit.specs.declared.notes.UnitNote.{UnitNote}
@@ -15,7 +16,7 @@ use Rattle.job_units.specs.declared.units.Made.{Made}
 use Rattle.job_units.specs.Forms.{IsUnit}
 use Rattle.job_units.specs.Puts.{put_of}
 use Rattle.job_units.specs.Reading.{common_bytes, own_bytes}
-use Rattle.puzzle_app.specs.Arrivals.{Arrival, arrival, bytes_on, makes}
+use Rattle.puzzle_app.specs.Arrivals.{Arrival, arrival, makes}
 use Rattle.puzzle_app.specs.Tasks.{Task, Put, Begin, End, as_units, put_all}
 
 -- what the rank is still to do, in order; the common bytes of the batch that is going on; the unit that was granted and is to be
@@ -72,7 +73,7 @@ pub data Moves (grain : ℕ) (b : Books) (s : Said) (next : Books) : Type 0 wher
   -- no server takes it: the unit comes to this rank
   rejected : (unit : Made) (rest : List Task) (on : Option (List ℕ)) (came : List Arrival) →
       b ≡ going (Put unit ∷ rest) on came → s ≡ said_of (put_of unit) Rejected →
-      next ≡ received grain (arrival (bytes_on on) unit) rest on came → Moves grain b s next
+      next ≡ received grain (arrival (unwrap_or on []) unit) rest on came → Moves grain b s next
   -- it is told an end at the put
   stopped : (unit : Made) (rest : List Task) (on : Option (List ℕ)) (came : List Arrival) (end : told_end.End) →
       b ≡ going (Put unit ∷ rest) on came → s ≡ said_of (put_of unit) (Ended end) → next ≡ shut rest on came → Moves grain b s next

@@ -7,9 +7,9 @@ use Rattle.bag_ledger.specs.declared.entries.Said.{Said}
 use Rattle.job_report.specs.declared.outcomes.Outcome.{Outcome}
 use Rattle.job_units.specs.declared.units.Made.{Made}
 use Rattle.job_units.specs.Puts.{counts}
-use Rattle.puzzle_app.specs.Arrivals.{Arrival, answers_in, is_over_at, makes, solutions_in}
+use Rattle.puzzle_app.specs.Arrivals.{Arrival, answers_in, makes, over_in, solutions_in}
 use Rattle.puzzle_app.specs.Books.{Books, Goes, going, said_of, shut}
-use Rattle.puzzle_app.specs.Tasks.{Task, all_units, tasks}
+use Rattle.puzzle_app.specs.Tasks.{Task, tasks, units_of}
 use Rattle.puzzle_app.specs.declared.program.PuzzleProgram.{PuzzleProgram}
 
 -- the books of a program at the start: it is to do the tasks of its jobs
@@ -19,7 +19,7 @@ start_of p = going (tasks p.settings.budget p.jobs) None []
 -- the numbers are those of the puzzles of which a worked board met an over node, each once
 pub record AreOvers (grain : ℕ) (came : List Arrival) (overs : List ℕ) : Type 0 where
   pub once : (n : ℕ) → count_by (λ x. x == n) overs ≤ 1
-  pub each : (n : ℕ) → list_any (λ x. x == n) overs ≡ list_any (is_over_at grain n) came
+  pub each : (n : ℕ) → list_any (λ x. x == n) overs ≡ list_any (λ a. over_in grain n a.unit) came
 
 -- the calls that a rank with this program can have made
 pub record IsSoFar (p : PuzzleProgram) (said : List Said) : Type 0 where
@@ -36,9 +36,9 @@ IsUnderWay p said (Some call) = (answer : Answer) × IsSoFar p (said ++ said_of 
 pub record Follows (p : PuzzleProgram) (said : List Said) (outcome : Outcome) : Type 0 where
   pub left : List Task
   pub came : List Arrival
-  pub goes : Goes p.settings.grain (start_of p) said (shut left None came)
+  pub goes : Goes p.settings.grain (going (tasks p.settings.budget p.jobs) None []) said (shut left None came)
   pub overs : AreOvers p.settings.grain came outcome.overs.items
   pub solutions : outcome.solutions.items ≡ solutions_in came
   pub answers : outcome.answers.items ≡ answers_in came
-  pub made : outcome.made ≡ counts (all_units (tasks p.settings.budget p.jobs) ++ flat_map (makes p.settings.grain) came)
+  pub made : outcome.made ≡ counts (flat_map units_of (tasks p.settings.budget p.jobs) ++ flat_map (makes p.settings.grain) came)
   pub few : (k : ℕ) → slice_index outcome.made k < 2 ^ 113

@@ -1,6 +1,6 @@
 //! A command that runs a rank program over an input.
 
-ghost use Rattle.std.specs.Prelude.{◌≡◌, ◌≤◌, ◌<◌, ◌^◌, ℕ, List, Some, length, slice_get, IfOk, IfErr};
+ghost use Rattle.std.specs.Prelude.{◌≡◌, ◌≤◌, ◌<◌, ◌^◌, ℕ, [], List, Some, length, slice_get, vec_capacity, IfOk, OnOk, IfErr};
 ghost use Rattle.run_command.specs.Heard.{HasHeard};
 ghost use Rattle.run_command.specs.Kept.{HasRun, IsWorkedUp, Kept};
 ghost use Rattle.run_command.specs.Reading.{RefusesBy};
@@ -48,18 +48,21 @@ pub trait Command {
         ensures asked { IfOk result (asks self.now bytes.now) }
         ensures refused { IfErr result (RefusesBy (refuses self.now bytes.now)) };
 
-    /// The programs of the ranks, of which there are `ranks`, in their order. Its only error is `NoMemory`.
-    fn programs(
+    /// Adds the programs of the ranks, of which there are `ranks`, in their order to an empty list, which has room for them. Its only
+    /// error is `NoMemory`. The list is its caller's, so that what lets programs go is proved once, of any program.
+    fn fill(
         &self,
         alloc: Global,
+        programs: &mut Vec<Self::Program>,
         ranks: u32,
         asked: &Self::Asked,
-    ) -> Result<Vec<Self::Program>, NoMemory>
-        requires { 0 < ranks }
-        ensures all { IfOk result (λ programs. length programs.items ≡ ranks) }
-        ensures fits { IfOk result (λ programs. (k : ℕ) (p : Self.Program) → slice_get programs.items k ≡ Some p →
-            Self.Program.fits p ranks) }
-        ensures programs { IfOk result (λ programs. are_programs self.now ranks asked.now programs.items) };
+    ) -> Result<(), NoMemory>
+        requires some { 0 < ranks }
+        requires empty { programs.old.items ≡ [] }
+        requires room { ranks ≤ vec_capacity programs.old }
+        ensures all { OnOk result (length programs.new.items ≡ ranks) }
+        ensures fits { OnOk result ((k : ℕ) (p : Self.Program) → slice_get programs.new.items k ≡ Some p → Self.Program.fits p ranks) }
+        ensures programs { OnOk result (are_programs self.now ranks asked.now programs.new.items) };
 
     /// What is written of a run over what was asked. All its work is done. Its only error is `NoMemory`.
     fn tell(

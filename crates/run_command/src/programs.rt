@@ -1,6 +1,6 @@
-//! The program of one rank over one server, from what is asked to its report.
+//! The programs of a command's ranks; and that of one rank over one server, from what is asked to its report.
 
-ghost use Rattle.std.specs.Prelude.{◌≡◌, ◌≤◌, ◌^◌, ℕ, [], ◌∷◌, length, None, Some, Err, true, false, IfOk, OnOk, IfErr};
+ghost use Rattle.std.specs.Prelude.{◌≡◌, ◌≤◌, ◌<◌, ◌^◌, ℕ, [], ◌∷◌, length, slice_get, None, Some, Err, true, false, IfOk, OnOk, IfErr};
 ghost use Rattle.core_inline.specs.Inline.{IsEnd, batch_of, zeroth};
 ghost use Rattle.rank_client.specs.Calls.{Repeats, has_finished};
 ghost use Rattle.run_command.specs.inside.{HasNumbers, HasWorked, IsOneMore, IsReportOf, IsTroubleOf};
@@ -9,7 +9,7 @@ ghost use Rattle.run_command.specs.Kept.{HasRun};
 use crate::commands::Command;
 use crate::kept::Kept;
 use adlb_threads::Report;
-use adlb_unit::{Config, Rank, Trouble};
+use adlb_unit::{Config, NoMemory, Rank, Trouble, or_no_memory};
 use bag_ledger::Said;
 use core_inline::InlineWorld;
 use ghost_list::Trace;
@@ -36,7 +36,7 @@ where
     ensures config { IfOk result (λ k. k.report.config ≡ config) }
     ensures faults { IfErr result (IsTroubleOf (C.may_take command.now asked.now (2 ^ 34))) }
 {
-    let Ok(programs) = command.programs(alloc, config.ranks, asked) else {
+    let Ok(programs) = programs_of(alloc, command, config.ranks, asked) else {
         return Err(Trouble::Memory);
     };
     let Ok(mut world) = InlineWorld::new(alloc, config.limit) else {
@@ -46,6 +46,26 @@ where
     world.finish_inline();
     let parts = end(world)?;
     report_of(alloc, config, parts, outcome)
+}
+
+/// The programs of the ranks, of which there are `ranks`, in their order. Its only error is `NoMemory`.
+pub(crate) fn programs_of<C>(
+    alloc: Global,
+    command: &C,
+    ranks: u32,
+    asked: &C::Asked,
+) -> Result<Vec<C::Program>, NoMemory>
+where
+    C: Command,
+    C::Program: Drop,
+    requires { 0 < ranks }
+    ensures all { IfOk result (λ programs. length programs.items ≡ ranks) }
+    ensures fits { IfOk result (λ programs. (k : ℕ) (p : C.Program) → slice_get programs.items k ≡ Some p → C.Program.fits p ranks) }
+    ensures programs { IfOk result (λ programs. C.are_programs command.now ranks asked.now programs.items) }
+{
+    let mut programs = or_no_memory(Vec::with_capacity(alloc, ranks as usize))?;
+    command.fill(alloc, &mut programs, ranks, asked)?;
+    Ok(programs)
 }
 
 // The calls of the program, in a world at its start. After them the rank may end a batch.

@@ -12,6 +12,7 @@ use crate::answers::{Answer, answer_of};
 use crate::commands::Command;
 use crate::faults::{Ended, Fault};
 use crate::kept::Kept;
+use crate::programs::programs_of;
 use crate::reading::read_input;
 use crate::writing::write_answer;
 use adlb_io::{Gate, Sink, Source, Spawner};
@@ -127,7 +128,7 @@ where
     ensures started { OnOk result (HasStarted config (T.starts threads.old) (T.starts threads.new)) }
     ensures later { T.faults threads.old ≤ T.faults threads.new }
 {
-    let Ok(programs) = command.programs(alloc, config.ranks, asked) else {
+    let Ok(programs) = programs_of(alloc, command, config.ranks, asked) else {
         return Err(RanFault::Memory);
     };
     match run_ranks(alloc, config, programs, threads, gate) {

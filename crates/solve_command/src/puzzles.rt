@@ -11,7 +11,7 @@ ghost use Rattle.spending_law.specs.Most.{most_calls};
 use crate::extras::Tail;
 use crate::telling::tell_run;
 use crate::wanted::Wanted;
-use adlb_unit::{NoMemory, or_no_memory};
+use adlb_unit::NoMemory;
 use job_report::Outcome;
 use job_text::{Jobs, JobsFault, LineWhy, read_jobs};
 use puzzle_app::{PuzzleProgram, Settings};
@@ -78,13 +78,14 @@ impl<E: Tail + Copy> Command for Puzzles<E> {
         read_puzzles(alloc, bytes)
     }
 
-    fn programs(
+    fn fill(
         &self,
         alloc: Global,
+        programs: &mut Vec<PuzzleProgram>,
         ranks: u32,
         asked: &PuzzleJobs,
-    ) -> Result<Vec<PuzzleProgram>, NoMemory> {
-        programs_of(alloc, self.settings, ranks, asked)
+    ) -> Result<(), NoMemory> {
+        fill(alloc, programs, self.settings, ranks, asked)
     }
 
     fn tell(
@@ -115,23 +116,7 @@ fn read_puzzles(alloc: Global, bytes: &[u8]) -> Result<PuzzleJobs, ReadFault<Lin
     }
 }
 
-// The programs of the ranks: the first has the jobs. Its only error is `NoMemory`.
-fn programs_of(
-    alloc: Global,
-    settings: Settings,
-    ranks: u32,
-    asked: &PuzzleJobs,
-) -> Result<Vec<PuzzleProgram>, NoMemory>
-    requires some { 0 < ranks }
-    ensures all { IfOk result (λ programs. length programs.items ≡ ranks) }
-    ensures programs { IfOk result (λ programs. ArePrograms settings asked.now programs.items) }
-{
-    let mut programs = or_no_memory(Vec::with_capacity(alloc, ranks as usize))?;
-    fill(alloc, &mut programs, settings, ranks, asked)?;
-    Ok(programs)
-}
-
-// Adds the programs of the ranks to none. Its only error is `NoMemory`.
+// Adds the programs of the ranks to an empty list: the first has the jobs. Its only error is `NoMemory`.
 fn fill(
     alloc: Global,
     programs: &mut Vec<PuzzleProgram>,
@@ -140,7 +125,7 @@ fn fill(
     asked: &PuzzleJobs,
 ) -> Result<(), NoMemory>
     requires some { 0 < ranks }
-    requires none { programs.old.items ≡ [] }
+    requires empty { programs.old.items ≡ [] }
     requires room { ranks ≤ vec_capacity programs.old }
     ensures all { OnOk result (length programs.new.items ≡ ranks) }
     ensures programs { OnOk result (ArePrograms settings asked.now programs.new.items) }

@@ -1,12 +1,12 @@
 //! Runs over cities, as a command.
 
-ghost use Rattle.std.specs.Prelude.{◌≡◌, ◌≤◌, ◌<◌, ◌^◌, IfOk, IfErr, length};
+ghost use Rattle.std.specs.Prelude.{◌≡◌, ◌≤◌, ◌<◌, ◌^◌, [], IfOk, OnOk, IfErr, length, vec_capacity};
 ghost use Rattle.least_law.specs.Joined.{StartsWell};
 ghost use Rattle.run_command.specs.Reading.{RefusesBy};
 ghost use Rattle.tour_command.specs.Tours.{ArePrograms, HasCities, RefusesLine, TellsLeast};
 
 use crate::telling::tell_run;
-use adlb_unit::{NoMemory, or_no_memory};
+use adlb_unit::NoMemory;
 use run_command::{Command, Kept, ReadFault};
 use std::alloc::Global;
 use tour_app::{Start, TourOutcome, TourProgram};
@@ -37,13 +37,14 @@ impl Command for Tours {
         read_tours(alloc, bytes)
     }
 
-    fn programs(
+    fn fill(
         &self,
         alloc: Global,
+        programs: &mut Vec<TourProgram>,
         ranks: u32,
         asked: &Cities,
-    ) -> Result<Vec<TourProgram>, NoMemory> {
-        programs_of(alloc, ranks, asked)
+    ) -> Result<(), NoMemory> {
+        fill(alloc, programs, ranks, asked)
     }
 
     fn tell(
@@ -70,19 +71,25 @@ fn read_tours(alloc: Global, bytes: &[u8]) -> Result<Cities, ReadFault<CitiesWhy
     }
 }
 
-// The programs of the ranks: the first has the cities. Its only error is `NoMemory`.
-fn programs_of(alloc: Global, ranks: u32, cities: &Cities) -> Result<Vec<TourProgram>, NoMemory>
+// Adds the programs of the ranks to an empty list: the first has the cities. Its only error is `NoMemory`.
+fn fill(
+    alloc: Global,
+    programs: &mut Vec<TourProgram>,
+    ranks: u32,
+    cities: &Cities,
+) -> Result<(), NoMemory>
     requires some { 0 < ranks }
-    ensures all { IfOk result (λ programs. length programs.items ≡ ranks) }
-    ensures programs { IfOk result (λ programs. ArePrograms cities.now programs.items) }
+    requires empty { programs.old.items ≡ [] }
+    requires room { ranks ≤ vec_capacity programs.old }
+    ensures all { OnOk result (length programs.new.items ≡ ranks) }
+    ensures programs { OnOk result (ArePrograms cities.now programs.new.items) }
 {
     let start = start_of(alloc, cities)?;
-    let mut programs = or_no_memory(Vec::with_capacity(alloc, ranks as usize))?;
     programs.push_reserved(TourProgram::new(alloc, Some(start)));
     for _rank in 1..ranks {
         programs.push_reserved(TourProgram::new(alloc, None));
     }
-    Ok(programs)
+    Ok(())
 }
 
 // The cities, and a tour to begin with. Its only error is `NoMemory`.

@@ -1,6 +1,6 @@
 use Rattle.std.proofs.Common.{◌≡◌, ◌≤◌, vec_len, vec_capacity}
 use Rattle.tour_command.specs.Tours.{ArePrograms}
-use Rattle.tour_command.proofs.tours.programs_of.Given as goal
+use Rattle.tour_command.proofs.tours.fill.Given as goal
 
 abbrev pub invariant-loop-rank : goal.invariant-loop-rank
 invariant-loop-rank l = record {

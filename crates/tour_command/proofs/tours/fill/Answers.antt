@@ -2,7 +2,7 @@ use Rattle.std.proofs.Common.{arith, List, subst, sym}
 use Rattle.tour_app.specs.declared.program.TourProgram.{TourProgram}
 use Rattle.tour_command.proofs.Programs.{more_programs}
 use Rattle.tour_command.specs.Tours.{ArePrograms}
-use Rattle.tour_command.proofs.tours.programs_of.Goals as goal
+use Rattle.tour_command.proofs.tours.fill.Goals as goal
 
 pub loop-rank-preserved : goal.loop-rank-preserved
 loop-rank-preserved c =

@@ -1,6 +1,6 @@
 use Rattle.std.proofs.Common.{◌≡◌, ◌≤◌, vec_len, vec_capacity}
 use Rattle.flow_command.specs.Flows.{ArePrograms}
-use Rattle.flow_command.proofs.flows.programs_of.Given as goal
+use Rattle.flow_command.proofs.flows.fill.Given as goal
 
 abbrev pub invariant-loop-rank : goal.invariant-loop-rank
 invariant-loop-rank l = record {

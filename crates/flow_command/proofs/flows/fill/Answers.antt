@@ -2,7 +2,7 @@ use Rattle.std.proofs.Common.{arith, List, subst, sym}
 use Rattle.flow_work.specs.declared.program.FlowProgram.{FlowProgram}
 use Rattle.flow_command.proofs.Programs.{more_programs}
 use Rattle.flow_command.specs.Flows.{ArePrograms}
-use Rattle.flow_command.proofs.flows.programs_of.Goals as goal
+use Rattle.flow_command.proofs.flows.fill.Goals as goal
 
 pub loop-rank-preserved : goal.loop-rank-preserved
 loop-rank-preserved c =
