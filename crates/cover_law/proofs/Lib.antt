@@ -1,2 +1,4 @@
 pub mod Holding
 pub mod Covered
+pub mod Begun
+pub mod Fronts

@@ -1,28 +1,21 @@
 -- How many calls of its program one rank has heard in a run of its own, whatever the run told beyond them.
-use Rattle.std.proofs.Common.{◌≡◌, ◌<◌, ◌≤◌, ◌++◌, ℕ, zero, suc, List, length, Some, ap, arith, refl, subst, sym}
+use Rattle.std.proofs.Common.{◌≡◌, ◌≤◌, ◌++◌, ℕ, List, length, Some, ap, arith, refl, subst, sym}
 use Rattle.adlb_unit.specs.declared.configs.Config.{Config}
-use Rattle.adlb_unit.specs.declared.names.Rank.{Rank}
 use Rattle.bag_ledger.specs.declared.entries.Entry.{Entry}
 use Rattle.bag_ledger.specs.declared.entries.Said.{Said}
 use Rattle.bag_ledger.specs.Bag.{Bag, start}
 use Rattle.bag_ledger.specs.Runs.{IsRun, calls}
 use Rattle.balance_law.specs.Balanced.{over_ranks}
+use Rattle.cover_law.specs.Begun.{begun_by}
+use Rattle.cover_law.proofs.Begun.{only, zeroth}
+use Rattle.cover_law.proofs.Fronts.{front_at}
 use Rattle.job_text.specs.declared.jobs.Job.{Job}
 use Rattle.puzzle_app.specs.Follows.{IsSoFar}
 use Rattle.puzzle_app.specs.declared.outcomes.Settings.{Settings}
 use Rattle.puzzle_app.specs.declared.program.PuzzleProgram.{PuzzleProgram}
-use Rattle.spending_law.specs.Most.{begun_by, most_calls}
+use Rattle.spending_law.specs.Most.{most_calls}
 use Rattle.spending_law.specs.UnderWay.{AreUnderWay, IsRankUnderWay, works}
-use Rattle.spending_law.proofs.Fronts.{front_at}
 use Rattle.spending_law.proofs.Together.{few_calls}
-
-abbrev zeroth : Rank
-zeroth = record { 0 = 0 }
-
--- a rank below one is the only one
-only : (P : Rank → Type 0) → P zeroth → (k : ℕ) → k < 1 → P (record { 0 = k })
-only P here zero low = here
-only P here (suc k) low = absurd (omega arith)
 
 module _ (config : Config) (ledger : List Entry) (last : Bag) (program : PuzzleProgram) (jobs : List Job) (said more : List Said)
     (run : IsRun (start config) ledger last) (one : config.ranks ≡ 1) (its : program.jobs ≡ Some jobs) (so : IsSoFar program said)

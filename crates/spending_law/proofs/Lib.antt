@@ -2,6 +2,5 @@ pub mod Waiting
 pub mod Spending
 pub mod Worths
 pub mod Together
-pub mod Fronts
 pub mod Heard
 mod Worked

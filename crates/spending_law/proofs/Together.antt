@@ -1,5 +1,5 @@
 -- How many calls all ranks together have begun.
-use Rattle.std.proofs.Common.{◌≡◌, ◌<◌, ◌≤◌, ◌+◌, ◌*◌, ◌==◌, ℕ, zero, suc, Bool, false, cond, List, [], ◌∷◌, ◌++◌, length}
+use Rattle.std.proofs.Common.{◌≡◌, ◌≤◌, ◌+◌, ◌*◌, ◌==◌, ℕ, zero, suc, Bool, false, cond, List, [], ◌∷◌, ◌++◌, length}
 use Rattle.std.proofs.Common.{Option, Some, None, is_some, refl, sym, ap, ◌∙◌, subst, arith, sum_by, append-nil, ◌⊎◌, inl, inr}
 use Rattle.std.proofs.lemmas.Bool.{ne_eqb}
 use Rattle.std.proofs.lemmas.List.{length-append}
@@ -15,8 +15,9 @@ use Rattle.bag_ledger.specs.Runs.{IsRun, calls}
 use Rattle.balance_law.specs.Balanced.{over_ranks}
 use Rattle.balance_law.specs.Parcels.{Parcel, batch_after, got, granted_note, parcel_got, parcel_sent, sent}
 use Rattle.balance_law.proofs.Causes.{batch_behind, got-append, held_after, sent-append}
+use Rattle.cover_law.specs.Begun.{all_begun, begun_by, pending_of}
 use Rattle.cover_law.specs.Grants.{AreOfGrants, FetchGrants, IsOfGrant}
-use Rattle.cover_law.proofs.Covered.{covered}
+use Rattle.cover_law.proofs.Begun.{at_most_one, few_begun}
 use Rattle.job_text.specs.declared.jobs.Job.{Job}
 use Rattle.job_units.specs.Puts.{put_of}
 use Rattle.job_units.specs.declared.units.Made.{Made}
@@ -30,9 +31,8 @@ use Rattle.puzzle_app.proofs.Calling.{OfEach, of_move, so_on}
 use Rattle.puzzle_law.specs.Joined.{jobs_of}
 use Rattle.rank_client.specs.Calls.{is_open}
 use Rattle.puzzle_law.proofs.Pieces.{waits}
-use Rattle.spending_law.specs.Most.{all_begun, begun_by, batches, most_calls, units_made}
-use Rattle.spending_law.specs.UnderWay.{AreUnderWay, HasCome, IsLeaving, IsRankUnderWay, both, closes, finishes}
-use Rattle.spending_law.specs.UnderWay.{leaves, pending_of, works}
+use Rattle.spending_law.specs.Most.{batches, most_calls, units_made}
+use Rattle.spending_law.specs.UnderWay.{AreUnderWay, HasCome, IsLeaving, IsRankUnderWay, both, closes, finishes, leaves, works}
 use Rattle.spending_law.proofs.Spending.{Keeps, all_spend, begins, credit, if_so, keeps, owed, owes_one, worth}
 use Rattle.spending_law.proofs.Waiting.{of_put}
 use Rattle.spending_law.proofs.Worths.{batches_begun, tasks_worth, worth_law, worth_of}
@@ -174,10 +174,6 @@ rank_grants config ledger last settings jobs rank is = by_way (calls config ledg
 
 -- One rank.
 
-at_most_one : (o : Option Call) → cond (is_some o) 1 0 ≤ 1
-at_most_one None = omega arith
-at_most_one (Some call) = omega arith
-
 -- what the tasks of the rank are worth
 abbrev first_credit : ℕ → ℕ → List Job → Rank → ℕ
 first_credit budget grain jobs rank =
@@ -252,13 +248,6 @@ module _ (config : Config) (ledger : List Entry) (last : Bag) (settings : Settin
 
 -- All ranks.
 
-over_all : (n : ℕ) (begun sends firsts gets : Rank → ℕ)
-    → ((rank : Rank) → rank.0 < n → begun rank + sends rank ≤ firsts rank + gets rank + 2)
-    → over_ranks n begun + over_ranks n sends ≤ over_ranks n firsts + over_ranks n gets + 2 * n
-over_all zero begun sends firsts gets each = omega arith
-over_all (suc n) begun sends firsts gets each =
-    omega (arith, over_all n begun sends firsts gets (λ rank below. each rank (omega arith)), each (record { 0 = n }) (omega arith))
-
 -- rank 0 has the tasks of the jobs, and no other has any
 firsts : (budget grain : ℕ) (jobs : List Job) (n : ℕ)
     → over_ranks n (first_credit budget grain jobs) ≤ 3 * units_made budget grain jobs + 2 * batches jobs
@@ -280,9 +269,7 @@ pub few_calls : (config : Config) (ledger : List Entry) (last : Bag) (settings :
 few_calls config ledger last settings jobs run under_way =
     let fetch : FetchGrants config ledger =
     λ rank below. rank_grants config ledger last settings jobs rank (under_way rank below) in
-    let more = covered config ledger last run fetch (value settings.grain) in
-    let each =
-    over_all config.ranks (begun_by config ledger last) (λ rank. sum_by (value settings.grain) (sent None (calls config ledger rank)))
-    (first_credit settings.budget settings.grain jobs) (λ rank. sum_by (value settings.grain) (got None (calls config ledger rank)))
+    let few =
+    few_begun config ledger last (value settings.grain) (first_credit settings.budget settings.grain jobs) run fetch
     (λ rank below. rank_spends config ledger last settings jobs rank (under_way rank below)) in
-    omega (arith, more, each, firsts settings.budget settings.grain jobs config.ranks)
+    omega (arith, few, firsts settings.budget settings.grain jobs config.ranks)

@@ -1,22 +1,8 @@
--- How many calls the ranks of a run of puzzle programs have begun, and how many they can begin.
-use Rattle.std.specs.Prelude.{ℕ, ◌+◌, ◌*◌, Bool, true, false, List, length, is_some, if◌then◌else◌, count_by}
-use Rattle.adlb_unit.specs.declared.configs.Config.{Config}
-use Rattle.adlb_unit.specs.declared.names.Rank.{Rank}
-use Rattle.bag_ledger.specs.declared.entries.Entry.{Entry}
-use Rattle.bag_ledger.specs.Bag.{Bag}
-use Rattle.bag_ledger.specs.Runs.{calls}
-use Rattle.balance_law.specs.Balanced.{over_ranks}
+-- How many calls the ranks of a run of puzzle programs can begin.
+use Rattle.std.specs.Prelude.{ℕ, ◌+◌, ◌*◌, Bool, true, false, List, count_by}
 use Rattle.job_report.specs.Jobs.{all_boards, all_items, all_solutions}
 use Rattle.job_text.specs.declared.jobs.Job.{Job}
 use Rattle.job_text.specs.declared.jobs.Job.TheVariants.{Puzzle, Batch}
-use Rattle.spending_law.specs.UnderWay.{pending_of}
-
--- how many calls the rank has begun: those that were answered, and the one that is pending
-abbrev pub begun_by : Config → List Entry → Bag → Rank → ℕ
-begun_by config ledger last rank = length (calls config ledger rank) + (if is_some (pending_of last rank) then 1 else 0)
-
-abbrev pub all_begun : Config → List Entry → Bag → ℕ
-all_begun config ledger last = over_ranks config.ranks (begun_by config ledger last)
 
 -- how many units are made of the jobs: the boards, the solutions, and of each item a job and an answer
 abbrev pub units_made : ℕ → ℕ → List Job → ℕ

@@ -1,23 +1,20 @@
 -- A run of puzzle programs that may go on.
-use Rattle.std.specs.Prelude.{◌≡◌, ◌<◌, Bool, true, List, [], ◌∷◌, ◌++◌, Option, None, option_and_then}
+use Rattle.std.specs.Prelude.{◌≡◌, ◌<◌, Bool, true, List, [], ◌∷◌, ◌++◌, Option, None}
 use Rattle.adlb_unit.specs.declared.configs.Config.{Config}
 use Rattle.adlb_unit.specs.declared.names.Rank.{Rank}
 use Rattle.bag_ledger.specs.declared.entries.Call.{Call}
 use Rattle.bag_ledger.specs.declared.entries.Call.TheVariants as calls_to
 use Rattle.bag_ledger.specs.declared.entries.Entry.{Entry}
 use Rattle.bag_ledger.specs.declared.entries.Said.{Said}
-use Rattle.bag_ledger.specs.Bag.{Bag, rank_at}
-use Rattle.bag_ledger.specs.Runs.{call_of, calls}
+use Rattle.bag_ledger.specs.Bag.{Bag}
+use Rattle.bag_ledger.specs.Runs.{calls}
+use Rattle.cover_law.specs.Begun.{pending_of}
 use Rattle.job_text.specs.declared.jobs.Job.{Job}
 use Rattle.puzzle_app.specs.Follows.{IsSoFar}
 use Rattle.puzzle_app.specs.declared.outcomes.Settings.{Settings}
 use Rattle.puzzle_app.specs.declared.program.PuzzleProgram.{PuzzleProgram}
 use Rattle.puzzle_law.specs.Joined.{jobs_of}
 use Rattle.rank_client.specs.Calls.{is_open}
-
--- the call of the rank that is pending, if there is one
-abbrev pub pending_of : Bag → Rank → Option Call
-pending_of last rank = option_and_then (λ r. call_of r.status) (rank_at last rank)
 
 -- the calls of a rank after those of its program, where a batch goes on or not: it ends that, and finishes
 pub data IsLeaving (on : Bool) (late : List Said) : Type 0 where

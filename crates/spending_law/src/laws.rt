@@ -6,11 +6,12 @@ ghost use Rattle.bag_ledger.specs.declared.entries.Entry.{Entry};
 ghost use Rattle.bag_ledger.specs.declared.entries.Said.{Said};
 ghost use Rattle.bag_ledger.specs.Bag.{Bag, start};
 ghost use Rattle.bag_ledger.specs.Runs.{IsRun, calls};
+ghost use Rattle.cover_law.specs.Begun.{all_begun};
 ghost use Rattle.job_text.specs.declared.jobs.Job.{Job};
 ghost use Rattle.puzzle_app.specs.Follows.{IsSoFar};
 ghost use Rattle.puzzle_app.specs.declared.outcomes.Settings.{Settings};
 ghost use Rattle.puzzle_app.specs.declared.program.PuzzleProgram.{PuzzleProgram};
-ghost use Rattle.spending_law.specs.Most.{all_begun, most_calls};
+ghost use Rattle.spending_law.specs.Most.{most_calls};
 ghost use Rattle.spending_law.specs.UnderWay.{AreUnderWay};
 
 /// In a legal run of every configuration, finished or not, in which each rank runs its puzzle program. All ranks together have

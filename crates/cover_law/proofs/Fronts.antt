@@ -31,24 +31,25 @@ pub front_at : (b last : Bag) (ledger : List Entry) (rank : Rank) (said more : L
     → calls_from b ledger rank ≡ said ++ more → HasFront b rank said
 front_at b last ledger rank [] more run is = record { front = []; middle = b; run = refl; calls_are = refl }
 front_at b last [] rank (s ∷ said) more run is = absurd (cc)
-front_at b last (e ∷ es) rank (s ∷ said) more run is = elim (ends_first rank (says b e) s (calls_from (after b e) es rank) (said ++ more) is) [
-  | inl later ↦
-      let f = front_at (after b e) last es rank (s ∷ said) more rest later.1 in
-      record {
-        front = e ∷ f.front;
-        middle = f.middle;
-        run = (after b e, steps, f.run);
-        calls_are = ap (λ l. l ++ calls_from (after b e) f.front rank) later.0 ∙ f.calls_are;
-      }
-  | inr now ↦
-      let f = front_at (after b e) last es rank said more rest now.1 in
-      record {
-        front = e ∷ f.front;
-        middle = f.middle;
-        run = (after b e, steps, f.run);
-        calls_are = ap (λ l. l ++ calls_from (after b e) f.front rank) now.0 ∙ ap (λ l. s ∷ l) f.calls_are;
-      }
-]
+front_at b last (e ∷ es) rank (s ∷ said) more run is =
+    elim (ends_first rank (says b e) s (calls_from (after b e) es rank) (said ++ more) is) [
+      | inl later ↦
+          let f = front_at (after b e) last es rank (s ∷ said) more rest later.1 in
+          record {
+            front = e ∷ f.front;
+            middle = f.middle;
+            run = (after b e, steps, f.run);
+            calls_are = ap (λ l. l ++ calls_from (after b e) f.front rank) later.0 ∙ f.calls_are;
+          }
+      | inr now ↦
+          let f = front_at (after b e) last es rank said more rest now.1 in
+          record {
+            front = e ∷ f.front;
+            middle = f.middle;
+            run = (after b e, steps, f.run);
+            calls_are = ap (λ l. l ++ calls_from (after b e) f.front rank) now.0 ∙ ap (λ l. s ∷ l) f.calls_are;
+          }
+    ]
   where
     steps : Steps b e (after b e)
     steps = subst (λ m. Steps b e m) run.1.2 run.1

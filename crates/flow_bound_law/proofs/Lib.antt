@@ -1,0 +1,5 @@
+pub mod Rules
+pub mod Spending
+pub mod Together
+pub mod Heard
+mod Worked
