@@ -202,6 +202,7 @@ tracked_promised b server id n u there long is = record {
     by_case x p (inl e) = is.measured x p e
     by_case x p (inr c) = (u, rw (← same_unit_is id x c.0) there, long ∙ ap (λ (q : Promise). q.length) c.1)
 
+-- a legal entry keeps what is tracked of the charges
 pub step_tracked : (found : Bag → Bool) (b : Bag) (e : Entry) → LegalWhere found b e → IsTracked b → IsTracked (after b e)
 step_tracked found b (Accepted server id) l is =
     let put = unit_put (λ r. putting r.status) (rank_at b id.rank) l.0 l.1 l.2 (rw l.3 refl) in

@@ -69,6 +69,7 @@ run_split found b last (x ∷ xs) ys run =
     let s = run_split found run.0 last xs ys run.2 in
     (s.0, (run.0, run.1, s.1), s.2)
 
+-- two runs, of which one begins where the other ends, are one run
 pub joined_where : (found : Bag → Bool) (b middle last : Bag) (xs ys : List Entry) → IsRunWhere found b xs middle
     → IsRunWhere found middle ys last → IsRunWhere found b (xs ++ ys) last
 joined_where found b middle last [] ys first then = rw first then

@@ -28,6 +28,7 @@ use Rattle.bag_ledger.specs.Step.{same_top, same_info, begins, is_server, keeps,
 abbrev pub IsTest : Bag → Entry → Type 0
 IsTest b e = (legal b e ≡ true) ↔ Legal b e
 
+-- `Some` of two values is equal only if the values are
 pub some_is : {X : Type 0} {x y : X} → Some x ≡ Some y → x ≡ y
 some_is e = cc
 
@@ -60,12 +61,15 @@ four_from e f g h = rw (e, f, g, h) refl
 
 -- Names.
 
+-- a number is equal to itself in the test
 pub same_number : (n : ℕ) → eqb n n ≡ true
 same_number n = eq-eqb n n refl
 
+-- ranks with equal numbers are equal
 pub same_rank_is : (a b : Rank) → (a.0 == b.0) ≡ true → a ≡ b
 same_rank_is a b e = let is : a.0 ≡ b.0 = eqb-true a.0 b.0 e in rw (← is) refl
 
+-- servers with equal numbers are equal
 pub same_server_is : (a b : Server) → (a.0 == b.0) ≡ true → a ≡ b
 same_server_is a b e = let is : a.0 ≡ b.0 = eqb-true a.0 b.0 e in rw (← is) refl
 

@@ -103,6 +103,7 @@ changed_here f store batch = by_part (part_in store batch) (in_without store bat
         by_due true = gone
         by_due false = there
 
+-- the part of a batch after a change of one: that one changed and kept, every other as before
 pub in_changed : (f : Part → Part) (store : Store) (batch b : BatchId)
     → part_in (changed f store batch) b ≡ cond (same_batch b batch) (option_and_then (λ p. kept (f p)) (part_in store batch))
     (part_in store b)

@@ -50,6 +50,7 @@ pub either_way : {T E : Type 0} {A B G : Type 0} (r : Result T E) → OnOk r A �
 either_way (Ok x) ok err f g = f ok
 either_way (Err e) ok err f g = g err
 
+-- two facts of a success and two of a failure, joined to one conclusion
 pub either_way_of_two : {T E : Type 0} {A B C D G : Type 0} (r : Result T E) → OnOk r A → OnOk r B → OnErr r C → OnErr r D → (A → B → G)
     → (C → D → G) → G
 either_way_of_two (Ok x) a b c d f g = f a b

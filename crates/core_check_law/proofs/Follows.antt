@@ -132,6 +132,7 @@ abbrev pub Behind : (World → Bag → Type 0) → World → Type 0
 Behind P w = (n : Bag) × Holds w n × P w n
 
 module _ (k : Server) where
+  -- with several servers no act of a run is the whole check of a server that is alone
   pub alone_not : (w : World) (a : Act) → IsWell w → 1 < w.config.servers → IsAct w k a → is_alone a ≡ false
   alone_not w a well several is =
       let own = well.own.servers k is.here in

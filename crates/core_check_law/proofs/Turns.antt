@@ -461,6 +461,7 @@ module _ (w : World) (k : Server) (well : IsWell w) where
 
     -- Every act.
 
+    -- after each act of a step the tokens are numbered, balanced and right on their links
     pub act_ringed : (a : Act) → IsStep w k a → IsRinged (acted w k a)
     act_ringed Starts is =
         let off = subst (λ (c : Server). (pool_of w c).kept.ring.runs ≡ false) (start_zeroth is.act) ((is.act).sure.0).alone in

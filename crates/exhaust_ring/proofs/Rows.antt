@@ -196,6 +196,7 @@ module _ (m : RingModel) (from : Server) (t : Token) where
   before_tested : IsBefore m from → is_before m from ≡ true
   before_tested r = rw (lt-ltb from.0 m.config.servers r.0, eq-eqb (behind m.config from 1).0 m.me.0 (ap (λ (s : Server). s.0) r.1)) refl
 
+  -- a token that passes the test is expected
   pub expects_is : expects m from t ≡ true → Expects m from t
   expects_is e =
       let a = and_parts (is_before m from) (is_to_mark m t || (has_come_back m t || (is_to_test m t || is_to_judge m t))) e in
@@ -214,6 +215,7 @@ module _ (m : RingModel) (from : Server) (t : Token) where
       by_row (inl e) = inl (mark_is m t e)
       by_row (inr e) = inr (by_next (either (has_come_back m t) (is_to_test m t || is_to_judge m t) e))
 
+  -- a token that is expected passes the test
   pub expects_tested : Expects m from t → expects m from t ≡ true
   expects_tested r = rw (before_tested r.0, by_row r.1) refl
     where

@@ -102,6 +102,7 @@ has_cases x xs i e = at (x == i) refl e
     at true is e = inl (eqb-true x i is)
     at false is e = inr e
 
+-- what a list has it has after an append
 pub has_append : (xs ys : List ℕ) (i : ℕ) → has xs i ≡ true → has (xs ++ ys) i ≡ true
 has_append xs ys i e = list_any-append (λ x. x == i) xs ys ∙ ap (λ b. b || has ys i) e
 
@@ -134,6 +135,7 @@ has_append_cases xs ys i e = at (has xs i) refl (sym (list_any-append (λ y. y =
     at true is e = inl is
     at false is e = inr (ap (λ b. b || has ys i) (sym is) ∙ e)
 
+-- what is appended to a list it has from then on
 pub has_later : (xs ys : List ℕ) (i : ℕ) → has ys i ≡ true → has (xs ++ ys) i ≡ true
 has_later xs ys i e = list_any-append (λ x. x == i) xs ys ∙ at (has xs i) (has ys i) e
   where
@@ -152,6 +154,7 @@ both true true e f = refl
 both true false e f = absurd (cc)
 both false c e f = absurd (cc)
 
+-- each number of a list passes the test of all of them
 pub below_at : (n : ℕ) (xs : List ℕ) (i d : ℕ) → are_below n xs ≡ true → i < length xs → get_or xs i d < n
 below_at n [] i d e inside = absurd (omega (arith, inside))
 below_at n (x ∷ xs) zero d e inside = ltb-true x n (and_parts (nat_lt x n) (are_below n xs) e).0

@@ -34,6 +34,7 @@ inputs_of op (Some a) (Some b) v e = record { a = a; b = b; left = refl; right =
 inputs_of op None y v e = absurd (cc)
 inputs_of op (Some a) None v e = absurd (cc)
 
+-- a definition that has a value has it still where more names have theirs
 pub gives_more : (less more : Worth) → IsMore more less → (d : Definition) (v : ℕ) → gives less d ≡ Some v → gives more d ≡ Some v
 gives_more less more knows (Let name w) v e = e
 gives_more less more knows (Rule name op left right) v e =
@@ -107,6 +108,7 @@ module _ (flow : List Definition) where
 abbrev known : Worth → Definition → Bool
 known worth d = is_some (worth (name_of d))
 
+-- an option that is not empty has a value
 pub some_of : (o : Option ℕ) → is_some o ≡ true → (v : ℕ) × (o ≡ Some v)
 some_of (Some v) e = (v, refl)
 some_of None e = absurd (cc)
@@ -223,6 +225,7 @@ module _ (flow : List Definition) where
 
 -- The two forms.
 
+-- an element of a list is its head or in its tail
 pub contains_cases : (y x : Definition) (xs : List Definition) → Contains (y ∷ xs) x → (y ≡ x) ⊎ Contains xs x
 contains_cases y x xs there = at there.0 there.1 there.2
   where
@@ -230,13 +233,16 @@ contains_cases y x xs there = at there.0 there.1 there.2
     at zero below is = inl is
     at (suc k) below is = inr (k, omega arith, is)
 
+-- whether a definition has the name
 abbrev pub named : Name → Definition → Bool
 named name d = bytes_eq (name_of d) name
 
+-- a head with the name counts one, any other nothing
 pub counts_step : (name : Name) (y : Definition) (xs : List Definition) →
     count_by (named name) (y ∷ xs) ≡ cond (named name y) 1 0 + count_by (named name) xs
 counts_step name y xs = sum_by-cons (λ d. cond (named name d) 1 0) y xs
 
+-- a definition that is there is counted by its name
 pub there_counts : (xs : List Definition) (d : Definition) → Contains xs d → 1 ≤ count_by (named (name_of d)) xs
 there_counts [] d there = absurd (omega (arith, there.1))
 there_counts (y ∷ xs) d there = elim (contains_cases y d xs there) [
@@ -247,6 +253,7 @@ there_counts (y ∷ xs) d there = elim (contains_cases y d xs there) [
   | inr later ↦ omega (arith, there_counts xs d later, counts_step (name_of d) y xs)
 ]
 
+-- without its first definition a flow has distinct names still
 pub distinct_rest : (y : Definition) (xs : List Definition) → AreDistinct (y ∷ xs) → AreDistinct xs
 distinct_rest y xs distinct name = omega (arith, distinct name, counts_step name y xs)
 

@@ -39,6 +39,7 @@ in_parts grain b kind boards found e f =
       f,
     )
 
+-- the work on a board makes one board for each child of its walk
 pub boards_by : (grain : ℕ) (b : Board) → count_by (is_kind 0) (made_by grain b) ≡ length (walk_of grain b).children
 boards_by grain b =
     let e = in_parts grain b 0 (length (walk_of grain b).children) 0
@@ -46,6 +47,7 @@ boards_by grain b =
     (none_counted Cells (solution_at b.puzzle) 0 (λ g. refl) (walk_of grain b).solutions) in
     omega (arith, e)
 
+-- the work on a board makes one solution for each that its walk finds
 pub solutions_by : (grain : ℕ) (b : Board) → count_by (is_kind 1) (made_by grain b) ≡ length (walk_of grain b).solutions
 solutions_by grain b =
     let e = in_parts grain b 1 0 (length (walk_of grain b).solutions)
@@ -58,6 +60,7 @@ pub no_jobs_by : (grain : ℕ) (b : Board) → count_by (is_kind 2) (made_by gra
 no_jobs_by grain b = in_parts grain b 2 0 0 (none_counted (ℕ × Cells) (child_of b.puzzle) 2 (λ c. refl) (walk_of grain b).children)
     (none_counted Cells (solution_at b.puzzle) 2 (λ g. refl) (walk_of grain b).solutions)
 
+-- the work on a board makes no answer
 pub no_answers_by : (grain : ℕ) (b : Board) → count_by (is_kind 3) (made_by grain b) ≡ 0
 no_answers_by grain b = in_parts grain b 3 0 0 (none_counted (ℕ × Cells) (child_of b.puzzle) 3 (λ c. refl) (walk_of grain b).children)
     (none_counted Cells (solution_at b.puzzle) 3 (λ g. refl) (walk_of grain b).solutions)

@@ -31,6 +31,7 @@ seam common body long is = omega (arith, length-append common body)
 pub own_behind : (common body : List ℕ) (long : ℕ) → long ≡ length body → own_bytes long (common ++ body) ≡ body
 own_behind common body long is = ap (λ n. drop n (common ++ body)) (seam common body long is) ∙ drop-append_seam common body
 
+-- the bytes before a body of the given length are the common part
 pub common_before : (common body : List ℕ) (long : ℕ) → long ≡ length body → common_bytes long (common ++ body) ≡ common
 common_before common body long is = ap (λ n. take n (common ++ body)) (seam common body long is) ∙ take-append_seam common body
 
@@ -80,5 +81,6 @@ read_fits note bytes =
     (if_mapped Solution made.Solution (solution_of_body own) (solution_fits own))
     (if_mapped Job made.Job (job_of_body own) (job_fits own)) (if_mapped Answer made.Answer (answer_of_body own) (answer_fits own))
 
+-- what is read from a fetch has the form of a unit
 pub fetched_fits : (note : UnitNote) (bytes : List ℕ) (unit : Made) → fetched note bytes ≡ Some unit → IsUnit unit
 fetched_fits note bytes unit e = subst IsUnitIf e (read_fits note bytes)

@@ -109,6 +109,7 @@ module _ {S L E : Type 0} (m : Machine S L E) (first : S) (got_among : GotOfActo
   square : (w : Lists S L) → IsShaped m.actors w → IsSquare m.actors w.links
   square w shaped = record { links = shaped.links; rows = shaped.rows }
 
+  -- in the world of lists, an event that may happen can be taken
   pub lists_go_on : GoesOn m (lists m first)
   lists_go_on w a e t inside shaped steps fronts =
       let n : ℕ = m.actors in

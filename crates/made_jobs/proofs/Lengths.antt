@@ -14,6 +14,7 @@ unfolding blanks
 blanks_long zero at = refl
 blanks_long (suc times) at = length-set (blanks times at).0 ((draw (blanks times at).1).0 % 81) 46 ∙ blanks_long times at
 
+-- a relabelled grid has 81 signs
 pub relabelled_long : (signs : List ℕ) → length (relabelled signs) ≡ 81
 unfolding relabelled
 relabelled_long signs = length-map full_grid _ ∙ grid_long

@@ -61,6 +61,7 @@ pub record OfEach (grain : ℕ) (P : Books → Said → Books → Type 0) : Type
       P (holding note came) (said_of (Fetch note.id) (Body bytes))
       (brought grain (common_bytes note.length bytes) (unit_fetched note bytes) came)
 
+-- what holds of each kind of move holds of every move
 pub of_move : (grain : ℕ) (P : Books → Said → Books → Type 0) → OfEach grain P → (b : Books) (s : Said) (next : Books) →
     Moves grain b s next → P b s next
 of_move grain P each b s next (accepted x rest on came fits e f g) = moved P e f g (each.at_accepted x rest on came fits)
@@ -375,6 +376,7 @@ goes_on_on grain b [] last same = ap (λ (x : Books). is_some x.on) same
 goes_on_on grain b (s ∷ said) last goes =
     ap (λ on. open_after on said) (of_move grain TellsOn (each_on grain) b s goes.0 goes.1) ∙ goes_on_on grain goes.0 said last goes.2
 
+-- a transcript is open exactly if the books have a call that goes on
 pub so_on : (p : PuzzleProgram) (said : List Said) (last : Books) → Goes p.settings.grain (start_of p) said last →
     is_open said ≡ is_some last.on
 so_on p said last goes = goes_on_on p.settings.grain (start_of p) said last goes

@@ -152,6 +152,7 @@ heard_is s from letter none (inr some) = by_test (not s.finished && nat_lt lette
         record { going = not-true s.finished parts.0; stamp = ltb-true letter.stamp (2 ^ 48) parts.1; awaited = some_mapped _ some }
     by_test false is some = absurd (cc)
 
+-- an option that has no value is `None`
 pub none_left : {X : Type 0} (o : Option X) → ((x : X) → o ≡ Some x → ⊥) → o ≡ None
 none_left None other = refl
 none_left (Some x) other = absurd (other x refl)

@@ -12,6 +12,7 @@ use Rattle.bag_ledger.specs.Bag.{Bag, rank_at, has_due}
 use Rattle.bag_ledger.specs.Runs.{calls_from, said_by, says}
 use Rattle.bag_ledger.specs.Steps.{LegalWhere, StepsWhere, after, change_at, is_freeing, with_rank}
 
+-- `Some` of two values is equal only if the values are
 pub some_is : {X : Type 0} {x y : X} → Some x ≡ Some y → x ≡ y
 some_is e = cc
 

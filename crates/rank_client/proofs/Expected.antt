@@ -220,6 +220,7 @@ awaited_ticked s stamp (waits_for.Reserve request types) from m = reserve_ticked
 awaited_ticked s stamp (waits_for.Try request types tried) from m = look_ticked s stamp request tried from m
 awaited_ticked s stamp _ from m = (λ here. here, λ here. here)
 
+-- a letter that is expected is heard, and no other
 pub expected_are_heard : ExpectedAreHeard
 expected_are_heard s from letter =
     let stamp : ℕ = letter_stamp s letter in

@@ -39,14 +39,17 @@ use Rattle.rank_client.proofs.Transcripts.{fetched_more, granted_more}
 
 -- Options.
 
+-- a value that is there if a test passes is the one given
 pub if_is : {X : Type 0} (t : Bool) (x y : X) → cond t (Some x) None ≡ Some y → x ≡ y
 if_is true x y e = some_is e
 if_is false x y e = absurd (cc)
 
+-- an option that is there if a test passes is there without the test
 pub if_there : {X : Type 0} (t : Bool) (o : Option X) (y : X) → cond t o None ≡ Some y → o ≡ Some y
 if_there true o y e = e
 if_there false o y e = absurd (cc)
 
+-- a mapped option that is there comes from an element that is there
 pub map_is : {X Y : Type 0} (f : X → Y) (o : Option X) (y : Y) → option_map f o ≡ Some y → (x : X) × (o ≡ Some x) × (f x ≡ y)
 map_is f None y e = absurd (cc)
 map_is f (Some x) y e = (x, refl, some_is e)

@@ -19,6 +19,7 @@ or_false false = refl
 any_more : {X : Type 0} (p : X → Bool) (xs : List X) (x : X) → list_any p (xs ++ x ∷ []) ≡ (list_any p xs || p x)
 any_more p xs x = list_any-append p xs (x ∷ []) ∙ ap (λ t. list_any p xs || t) (or_false (p x))
 
+-- a transcript with one more call is finished if it was, or if that call finishes it
 pub finished_more : (said : List Said) (s : Said) → has_finished (said ++ s ∷ []) ≡ (has_finished said || is_finish s.call)
 unfolding has_finished
 finished_more said s = any_more (λ (s : Said). is_finish s.call) said s
@@ -54,6 +55,7 @@ pub none_told : end_told [] ≡ None
 unfolding end_told
 none_told = refl
 
+-- an empty transcript is not finished
 pub none_finished : has_finished [] ≡ false
 unfolding has_finished
 none_finished = refl

@@ -17,12 +17,14 @@ get_of_drop [] rest (suc n) t h = absurd cc
 get_of_drop (x ∷ xs) rest zero t h = cc
 get_of_drop (x ∷ xs) rest (suc n) t h = get_of_drop xs rest n t h
 
+-- what follows the first of what is left is what is left after one more
 pub rest_of_drop : {T : Type 0} (ts rest : List T) (n : ℕ) (t : T) → drop n ts ≡ t ∷ rest → rest ≡ drop (suc n) ts
 rest_of_drop [] rest zero t h = absurd cc
 rest_of_drop [] rest (suc n) t h = absurd cc
 rest_of_drop (x ∷ xs) rest zero t h = cc
 rest_of_drop (x ∷ xs) rest (suc n) t h = rest_of_drop xs rest n t h
 
+-- nothing is left of a list after its length
 pub drop_past : {T : Type 0} (ts : List T) (n : ℕ) → n ≡ length ts → drop n ts ≡ []
 drop_past [] zero h = refl
 drop_past [] (suc n) h = refl
@@ -35,6 +37,7 @@ take_whole [] (suc n) h = refl
 take_whole (x ∷ xs) zero h = absurd (omega (arith, h))
 take_whole (x ∷ xs) (suc n) h = ap (λ l. x ∷ l) (take_whole xs n (omega (arith, h)))
 
+-- there is an element at each place within a list
 pub there : {T : Type 0} (ts : List T) (k : ℕ) → k < length ts → (t : T) × (slice_get ts k ≡ Some t)
 there [] k h = absurd (omega arith)
 there (x ∷ xs) zero h = (x, refl)

@@ -120,6 +120,7 @@ turned_not test f e fails = rw fails refl
 turned_yes : (test : Waiting → Bool) (f : Waiting → Waiting) (e : Waiting) → test e ≡ true → turned test f e ≡ f e
 turned_yes test f e passes = rw passes refl
 
+-- a change of those that pass a test leaves a list in which nobody does
 pub none_turned : (test : Waiting → Bool) (f : Waiting → Waiting) (xs : List Waiting) → All (λ e. test e ≡ false) xs
     → map (turned test f) xs ≡ xs
 none_turned test f [] all = refl

@@ -30,9 +30,11 @@ use Rattle.reserve_path.proofs.Places.{at_only, of_tells}
 
 -- None has it: of each it is not so.
 
+-- if no element has a property, each lacks it
 pub each_not : {X : Type 0} (P : X → Type 0) (xs : List X) → (Any P xs → ⊥) → All (λ x. P x → ⊥) xs
 each_not P xs none k d within has = none (k, get_or xs k d, within, get_or_default xs k (get_or xs k d) d within, has)
 
+-- if each element lacks a property, no element has it
 pub not_any : {X : Type 0} (P : X → Type 0) (xs : List X) → All (λ x. P x → ⊥) xs → Any P xs → ⊥
 not_any P xs all has = all has.0 has.1 has.2 (subst P (sym has.3) has.4)
 
@@ -59,6 +61,7 @@ granted_is_best q rank types p is = by_best (best_of rank types q.units) refl
         let same : there.0 ≡ p = cc (found) in
         subst (IsBest rank types q.units) (sym there.2 ∙ ap id_of same) ((best_walk rank types q.units id).0 best)
 
+-- if there is no best unit for a rank, no unit is offered to it
 pub none_granted_is : (q : Queue) (rank : Rank) (types : Option (List WorkType)) → best_for q rank types ≡ None
     → Any (IsOffered rank types) q.units → ⊥
 none_granted_is q rank types is = by_best (best_of rank types q.units) refl
@@ -92,12 +95,14 @@ module _ (w : Wish) (id : UnitId) (rank : Rank) (units : List Placed) where
       let Q : Placed → Type 0 = λ p. NotOffered w (pinned_by id rank p) in
       All-map (NotOffered w) (pinned_by id rank) units (All-weaker (NotOffered w) Q (not_pinned w id rank) units all)
 
+-- a queue without a unit for a wish has none after a pin
 pub none_pinned : (q : Queue) (rank : Rank) (o : Option Placed) (w : Wish) → HasNoneFor q w → HasNoneFor (pinned_to rank o q) w
 none_pinned q rank None w none = none
 none_pinned q rank (Some p) w none =
     not_any (IsOffered w.rank w.types) (map (pinned_by (id_of p) rank) q.units)
     (all_pinned w (id_of p) rank q.units (each_not (IsOffered w.rank w.types) q.units none))
 
+-- without one unit, a queue that has nothing for a wish has nothing for it still
 pub none_left : (q : Queue) (id : UnitId) (w : Wish) → HasNoneFor q w
     → Any (IsOffered w.rank w.types) (filter (has_other_id id) q.units) → ⊥
 none_left q id w none =

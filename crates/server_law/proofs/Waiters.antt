@@ -23,6 +23,7 @@ Has P [] = ⊥
 Has P (x ∷ xs) = P x ⊎ Has P xs
 
 module _ {X : Type 0} (P : X → Type 0) where
+  -- `All` of a list is `Each` of it
   pub each_all : (xs : List X) → All P xs → Each P xs
   each_all [] all = tt
   each_all (x ∷ xs) all = (All-head P x xs all, each_all xs (All-tail P x xs all))
@@ -31,10 +32,12 @@ module _ {X : Type 0} (P : X → Type 0) where
   all_each [] each = All-nil P
   all_each (x ∷ xs) each = All-cons P x xs each.0 (all_each xs each.1)
 
+  -- what holds of each of two lists holds of each of both together
   pub each_append : (xs ys : List X) → Each P xs → Each P ys → Each P (xs ++ ys)
   each_append [] ys a b = b
   each_append (x ∷ xs) ys a b = (a.0, each_append xs ys a.1 b)
 
+  -- what holds of each of two lists together holds of each in either
   pub each_parts : (xs ys : List X) → Each P (xs ++ ys) → Each P xs × Each P ys
   each_parts [] ys all = (tt, all)
   each_parts (x ∷ xs) ys all = let rest = each_parts xs ys all.1 in ((all.0, rest.0), rest.1)
@@ -140,6 +143,7 @@ module _ (P : Waiting → Type 0) where
       let parts = each_parts P at.before (gone ++ at.behind) (subst (Each P) sits all) in
       each_append P at.before (come ++ at.behind) parts.0 (each_append P come at.behind new (each_parts P gone at.behind parts.1).1)
 
+  -- what holds of those that waited and of those that came holds of those that wait after the act
   pub each_after : (a : Act) (s : ServerModel) → SitsIn a s → Each P s.kept.parked.waiting → Each P (comes a s)
       → Each P (waiting_after a s)
   each_after a s sits all new = each_around (around a) s.kept.parked.waiting (goes a) (comes a s) sits all new

@@ -156,11 +156,13 @@ from_low n (d ∷ g) low =
     and_from (leb d n) (list_all (λ x. leb x n) g) (le-leb d n (low 0 (omega arith)))
     (from_low n g (λ k within. low (suc k) (omega arith)))
 
+-- a grid that passes the test is one of a sudoku
 pub test_sudoku : (g : Cells) → is_sudoku g ≡ true → IsSudoku g
 test_sudoku g test =
     let parts = and_parts (eqb (length g) (size (box_side g))) (list_all (λ d. leb d (side (box_side g))) g) test in
     record { long = eqb-true (length g) (size (box_side g)) parts.0; digits = low_from (side (box_side g)) g parts.1 }
 
+-- a grid of a sudoku passes the test
 pub sudoku_test : (g : Cells) → IsSudoku g → is_sudoku g ≡ true
 sudoku_test g is =
     and_from (eqb (length g) (size (box_side g))) (list_all (λ d. leb d (side (box_side g))) g)

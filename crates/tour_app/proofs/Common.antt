@@ -142,6 +142,7 @@ cities_of n bytes rows tour fits is whole =
 
 -- A common part is read back.
 
+-- a start is read back from its common part
 pub read_back : (s : StartModel) → IsStart s → shared (common_part s) ≡ Some s
 unfolding common_part
 read_back s is =

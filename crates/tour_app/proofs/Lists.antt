@@ -8,6 +8,7 @@ use Rattle.work_law.specs.Work.{Arrival, Work, arrival, made_by}
 use Rattle.tour_app.specs.Works.{found, found_at, found_in, left_over, tours}
 use Rattle.tour_app.specs.declared.units.TourUnit.{TourUnit}
 
+-- what is made of two lists is what is made of each, one after the other
 pub flat-append : {X Y : Type 0} (f : X → List Y) (xs ys : List X) → flat_map f (xs ++ ys) ≡ flat_map f xs ++ flat_map f ys
 flat-append f [] ys = refl
 flat-append f (x ∷ xs) ys = ap (λ l. f x ++ l) (flat-append f xs ys) ∙ sym (append_assoc (f x) (flat_map f xs) (flat_map f ys))

@@ -198,6 +198,7 @@ tours_only n t some there =
         let s = same k in
         omega (arith, s, times-other 0 k u (λ e. omega arith), range_above 1 (n - 1) k (omega arith))
 
+-- the cities in order are a tour
 pub range_tour : (n : ℕ) → 1 ≤ n → IsTour n (range_with_len 0 n)
 range_tour zero some = absurd (omega arith)
 range_tour (suc n) some =
@@ -285,12 +286,14 @@ continues_begins a b t on =
     ap (begins_with a b) on.1 ∙ both_of (a == a) (b == b) (eq-eqb a a refl) (eq-eqb b b refl)
 
 module _ (n : ℕ) (c : Costs) (first : List ℕ) (a b : ℕ) (some : 1 ≤ n) where
+  -- the best of a pair is as good as each tour that begins with it
   pub pair_good : (t : List ℕ) → IsTour n t → Continues (0 ∷ a ∷ b ∷ []) t → IsAsGood c (pair_best n c first a b) t
   pair_good t is on =
       let x = best_is c first (filter (begins_with a b) (all_tours n)) in
       All-contains (IsAsGood c (pair_best n c first a b)) (filter (begins_with a b) (all_tours n)) t x.each
       (Contains-kept (begins_with a b) (all_tours n) t (tours_has n t some is) (continues_begins a b t on))
 
+  -- the best of a pair is a tour
   pub pair_tour : IsTour n first → IsTour n (pair_best n c first a b)
   pair_tour is =
       let x = best_is c first (filter (begins_with a b) (all_tours n)) in

@@ -14,16 +14,19 @@ use Rattle.tour_law.specs.Beginnings.{IsOnce}
 abbrev pub times : ℕ → List ℕ → ℕ
 times city xs = count_by (λ x. x == city) xs
 
+-- a head that is the city counts one more
 pub times-same : (x : ℕ) (xs : List ℕ) → times x (x ∷ xs) ≡ 1 + times x xs
 times-same x xs =
     sum_by-cons (λ y. cond (y == x) 1 0) x xs ∙ ap (λ (b : Bool). cond b 1 0 + times x xs) (eq-eqb x x refl)
 
+-- a head that is another city counts nothing
 pub times-other : (x city : ℕ) (xs : List ℕ) → (x ≡ city → ⊥) → times city (x ∷ xs) ≡ times city xs
 times-other x city xs other =
     let e : times city (x ∷ xs) ≡ 0 + times city xs =
     sum_by-cons (λ y. cond (y == city) 1 0) x xs ∙ ap (λ (b : Bool). cond b 1 0 + times city xs) (ne_eqb x city other) in
     omega (arith, e)
 
+-- a longer list has a city at least as many times
 pub times-more : (x city : ℕ) (xs : List ℕ) → times city xs ≤ times city (x ∷ xs)
 times-more x city xs = let e = sum_by-cons (λ y. cond (y == city) 1 0) x xs in omega (arith, e)
 
@@ -123,6 +126,7 @@ none-past n city (x ∷ xs) within past =
     let first : x < n = All-head (λ y. y < n) x xs within in
     times-other x city xs (λ e. omega arith) ∙ none-past n city xs (All-tail (λ y. y < n) x xs within) past
 
+-- a tour has each city once at most
 pub tour-once : (n : ℕ) (tour : List ℕ) → IsTour n tour → IsOnce tour
 tour-once n tour is city = elim (cases_lt city n) [
   | inl below ↦ omega (arith, is.once city below)
@@ -139,5 +143,6 @@ unfolding sum_below
 below-ones zero = refl
 below-ones (suc n) = omega (arith, below-ones n)
 
+-- a tour has as many cities as there are
 pub tour-long : (n : ℕ) (tour : List ℕ) → IsTour n tour → length tour ≡ n
 tour-long n tour is = omega (arith, length-ones tour, sum-tour n (λ k. 1) tour is, below-ones n)

@@ -104,6 +104,7 @@ none_left_at W b (s ∷ said) last well goes none =
     (by_kind W (λ b s next. IsEndedWell s.call s.answer → LeavesNone b → LeavesNone next) (none_left_each W) b s goes.0 goes.1
     (All-head (λ (t : Said). IsEndedWell t.call t.answer) s said well) none)
 
+-- a program whose calls all ended well has no task left
 pub none_left : {Made : Type 0} (W : Work Made) (first : List (Task Made)) (said : List Said) (left : List (Task Made))
     (came : List (Arrival Made)) → All (λ (s : Said). IsEndedWell s.call s.answer) said
     → Goes W (going first None []) said (shut left None came) →

@@ -62,6 +62,7 @@ module _ (w v : Inside) (sound : IsSound w) (grown : IsGrown w v) where
       ≡ record { units = units_at w.slots w.order.items; promises = v.rooms; common = v.common; arrivals = v.arrivals; limit = v.limit }
   view_rooms = rw units_kept refl
 
+-- promises stay distinct with one for an id that had none
 pub once_more : (promises : List Promise) (id : UnitId) (n : ℕ) → HasDistinctPromises promises → HasNoPromise id promises
     → HasDistinctPromises (promises ++ record { id = id; length = n } ∷ [])
 once_more promises id n once none = all_pairs_push (λ (p q : Promise). p.id ≢ q.id) promises (record { id = id; length = n }) once none
@@ -72,6 +73,7 @@ apart_more units promises id n apart none =
     let P : Promise → Type 0 = λ p. HasNoUnit p.id units in
     All-push P promises (record { id = id; length = n }) apart none
 
+-- promises stay distinct without one
 pub once_left : (promises : List Promise) (id : UnitId) → HasDistinctPromises promises
     → HasDistinctPromises (filter (is_for_other id) promises)
 once_left promises id once = AllPairs-filter (λ (p q : Promise). p.id ≢ q.id) (is_for_other id) promises once

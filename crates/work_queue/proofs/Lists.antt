@@ -48,6 +48,7 @@ module _ (units : List Placed) (p : Placed) (id : UnitId) (distinct : HasDistinc
       ∙ filter_at parts.0 parts.1 p id parted is in
       moved units (filter (has_other_id id) units) parts.0 parts.1 p parts.2 others
 
+  -- a sum over units is that of one and of those of other ids
   pub sum_by-others : (f : Placed → ℕ) → sum_by f units ≡ f p + sum_by f (filter (has_other_id id) units)
   sum_by-others f = sym (sum_by-IsPermutation f units (p ∷ filter (has_other_id id) units) others_first)
       ∙ sum_by-cons f p (filter (has_other_id id) units)
@@ -65,6 +66,7 @@ module _ (units : List Placed) (p : Placed) (id : UnitId) (distinct : HasDistinc
       ∙ map_at parts.0 parts.1 p id rank parted is in
       moved (map (pinned_by id rank) units) (filter (has_other_id id) units) parts.0 parts.1 now pinned others
 
+  -- a sum after a pin is that of the pinned unit and of those of other ids
   pub sum_by-pinned : (rank : Rank) (f : Placed → ℕ)
       → sum_by f (map (pinned_by id rank) units) ≡ f (record p { pin = Some rank }) + sum_by f (filter (has_other_id id) units)
   sum_by-pinned rank f =
@@ -109,6 +111,7 @@ id_gone id units =
 pub distinct_left : (id : UnitId) (units : List Placed) → HasDistinctIds units → HasDistinctIds (filter (has_other_id id) units)
 distinct_left id units distinct = AllPairs-filter (λ a b. id_of a ≢ id_of b) (has_other_id id) units distinct
 
+-- units stay distinct with one of a new id
 pub distinct_added : (units : List Placed) (p : Placed) → HasDistinctIds units → All (λ q. id_of q ≢ id_of p) units
     → HasDistinctIds (units ++ p ∷ [])
 distinct_added units p distinct fresh = all_pairs_push (λ a b. id_of a ≢ id_of b) units p distinct fresh

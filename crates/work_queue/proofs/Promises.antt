@@ -13,6 +13,7 @@ use Rattle.work_queue.proofs.Named.{only_one, remove_is}
 use Rattle.work_queue.specs.Queue.{HasApartPromises, HasDistinctPromises, HasNoPromise, HasNoUnit, HasRoom, Promise, is_for_other, promised}
 use Rattle.work_queue.specs.declared.placing.Placed.{Placed}
 
+-- the id that a promise is for
 abbrev pub promised_id : Promise → UnitId
 promised_id p = p.id
 
@@ -36,6 +37,7 @@ room_missing promises id none n =
 -- the promise r at this place, of this id
 module _ (promises : List Promise) (i : ℕ) (r : Promise) (id : UnitId) (distinct : HasDistinctPromises promises)
     (within : i < length promises) (read : r ≡ get_or promises i r) (is : r.id ≡ id) where
+  -- a promise removed by its place is one filtered out by its id
   pub removed_is : remove promises i ≡ filter (is_for_other id) promises
   removed_is = remove_is promised_id promises i r id distinct within read is
 
@@ -46,6 +48,7 @@ module _ (promises : List Promise) (i : ℕ) (r : Promise) (id : UnitId) (distin
   pub fewer_left : length (remove promises i) + 1 ≡ length promises
   fewer_left = length-remove promises i within
 
+  -- the bytes promised are those of one promise and of the others
   pub less_left : sum_by promised promises ≡ r.length + sum_by promised (remove promises i)
   less_left =
       let total : sum_by promised (remove promises i) + (get_or promises i r).length ≡ sum_by promised promises =

@@ -15,6 +15,7 @@ pub record IsFirst {X : Type 0} (test : X → Bool) (xs : List X) (x : X) : Type
   pub passes : test x ≡ true
   pub fails : (k : ℕ) (d : X) → k < place → test (get_or xs k d) ≡ false
 
+-- what is found is the first that passes
 pub find_first : {X : Type 0} (test : X → Bool) (xs : List X) (x : X) → find test xs ≡ Some x → IsFirst test xs x
 find_first test xs x found =
     let place = position_or_len test xs in
@@ -30,6 +31,7 @@ find_first test xs x found =
       fails = λ k d before. fails_before_first test xs k d before;
     }
 
+-- if nothing is found, no element passes
 pub find_none : {X : Type 0} (test : X → Bool) (xs : List X) → find test xs ≡ None → All (λ x. test x ≡ false) xs
 find_none test xs none k d within =
     let at : slice_get xs (position_or_len test xs) ≡ None = sym (find_at test xs) ∙ none in

@@ -39,9 +39,11 @@ module _ (rank : Rank) (types : Option (List WorkType)) (units : List Placed) wh
   none_found None same = (λ e some. none_offered rank types units same some, λ none. refl)
   none_found (Some r) same = (λ e. absurd (none-some r.id (sym e)), λ none. absurd (none (some_offered rank types units r same)))
 
+  -- the walk finds a unit exactly if it is the best that is offered
   pub best_walk : (id : UnitId) → (best_of rank types units ≡ Some id) ↔ IsBest rank types units id
   best_walk = best_found (best_from rank types None units) refl
 
+  -- the walk finds nothing exactly if no unit is offered
   pub no_best : (best_of rank types units ≡ None) ↔ ¬ Any (IsOffered rank types) units
   no_best = none_found (best_from rank types None units) refl
 
@@ -100,5 +102,6 @@ module _ (asked : List (Rank × Option (List WorkType))) (units : List Placed) w
   pub fit_walk : (id : UnitId) → (first_fit asked units ≡ Some id) ↔ IsFirstFit asked units id
   fit_walk = fit_found (first_fit asked units) refl
 
+  -- no fit is found exactly if no unit suits a rank that asked
   pub no_fit : (first_fit asked units ≡ None) ↔ ¬ Any (IsAsked asked) units
   no_fit = none_fit (first_fit asked units) refl
