@@ -52,6 +52,7 @@ passed : (t : Bool) (x next : Bag) → (if t then Some x else None) ≡ Some nex
 passed true x next e = (refl, cc)
 passed false x next e = absurd (cc)
 
+-- a step of the relation is what the function answers
 pub row_is : (b next : Bag) (e : Entry) → Steps b e next → step b e ≡ Some next
 row_is b next e s = rw (and_from (in_turn b e) (legal b e) s.0 ((legal_test b e).1 s.1), s.2) refl
 

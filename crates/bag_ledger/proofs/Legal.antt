@@ -75,5 +75,6 @@ pub joined_where : (found : Bag → Bool) (b middle last : Bag) (xs ys : List En
 joined_where found b middle last [] ys first then = rw first then
 joined_where found b middle last (x ∷ xs) ys first then = (first.0, first.1, joined_where found first.0 middle last xs ys first.2 then)
 
+-- two runs, of which one begins where the other ends, are one run
 pub run_joined : (b middle last : Bag) (xs ys : List Entry) → IsRun b xs middle → IsRun middle ys last → IsRun b (xs ++ ys) last
 run_joined = joined_where settled

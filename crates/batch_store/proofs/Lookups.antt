@@ -76,6 +76,7 @@ turned_here f (e ∷ store) batch = by_same (same_batch batch e.0) refl (turned_
     by_same true is later = rw is refl
     by_same false is later = rw is later
 
+-- a change of one part leaves the others
 pub turned_apart : (f : Part → Part) (store : Store) (batch b : BatchId) → same_batch b batch ≡ false
     → part_in (with_turned store batch f) b ≡ part_in store b
 turned_apart f [] batch b apart = refl

@@ -16,6 +16,7 @@ more waits_for.Nothing = 0
 more (waits_for.Common request note common own) = 0
 more _ = 2
 
+-- a pending call leads to two answers more at most
 pub more_few : (p : Pending) → more p ≤ 2
 more_few waits_for.Nothing = omega arith
 more_few _ = omega arith

@@ -114,6 +114,7 @@ module _ (m : RingModel) (t : Token) where
   other_is : not (m.me.0 == 0) ≡ true → m.me.0 ≢ 0
   other_is e = eqb-false m.me.0 0 (not_true (m.me.0 == 0) e)
 
+  -- where the test passes, the token is to be marked
   pub mark_is : is_to_mark m t ≡ true → IsToMark m t
   mark_is e =
       let a = and_parts (not (m.me.0 == 0))
@@ -164,15 +165,18 @@ module _ (m : RingModel) (t : Token) where
   test_tested : IsToTest m t → is_to_test m t ≡ true
   test_tested r = rw (ne_eqb m.me.0 0 r.other, eq-eqb t.wave 2 r.wave, eq-eqb m.ring.number t.check r.marked, r.untested) refl
 
+  -- where the test passes, the token is to be judged
   pub judge_is : is_to_judge m t ≡ true → IsToJudge m t
   judge_is e =
       let a = and_parts (is_running m t) ((t.wave == 2) && m.ring.tested) e in
       let b = and_parts (t.wave == 2) m.ring.tested a.1 in
       record { running = running_is a.0; wave = eqb-true t.wave 2 b.0; tested = b.1 }
 
+  -- where the test passes, the token has come back or is to be tested
   pub comes_back : has_come_back m t ≡ true → HasComeBack m t ⊎ IsToTest m t
   comes_back e = inl (back_is e)
 
+  -- a token that is to be tested is one that comes back
   pub comes_again : is_to_test m t ≡ true → HasComeBack m t ⊎ IsToTest m t
   comes_again e = inr (test_is e)
 

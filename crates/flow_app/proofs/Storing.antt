@@ -106,6 +106,7 @@ has_cases x xs i e = at (x == i) refl e
 pub has_append : (xs ys : List ℕ) (i : ℕ) → has xs i ≡ true → has (xs ++ ys) i ≡ true
 has_append xs ys i e = list_any-append (λ x. x == i) xs ys ∙ ap (λ b. b || has ys i) e
 
+-- a list has what is pushed
 pub has_push : (xs : List ℕ) (i : ℕ) → has (xs ++ i ∷ []) i ≡ true
 has_push xs i = list_any-append (λ x. x == i) xs (i ∷ []) ∙ at (has xs i) (i == i) (same i)
   where
@@ -149,6 +150,7 @@ set_past [] i o past = refl
 set_past (x ∷ values) zero o past = absurd (omega (arith, past))
 set_past (x ∷ values) (suc i) o past = ap (λ (l : List (Option ℕ)). x ∷ l) (set_past values i o (omega (arith, past)))
 
+-- two tests that pass do so together
 pub both : (b c : Bool) → b ≡ true → c ≡ true → (b && (c && true)) ≡ true
 both true true e f = refl
 both true false e f = absurd (cc)
@@ -380,10 +382,12 @@ rest_next flow values noted ready next items k inside s =
     let later : suc k ≡ k + 1 = omega arith in
     subst (IsLaid flow values noted ready next) (drop-cons items k 0 inside ∙ ap (λ n. get_or items k 0 ∷ drop n items) later) s
 
+-- an option does not both have a value and lack one
 pub not_both : (o : Option ℕ) → is_some o ≡ true → is_none o ≡ true → ⊥
 not_both None has none = cc
 not_both (Some v) has none = cc
 
+-- an option that does not lack a value has one
 pub some_if : (o : Option ℕ) → is_none o ≡ false → is_some o ≡ true
 some_if None e = absurd (cc)
 some_if (Some v) e = refl

@@ -14,6 +14,7 @@ use Rattle.flow_law.specs.declared.Op.{Op}
 
 -- What names are worth.
 
+-- what each name is worth, if anything
 abbrev pub Worth : Type 0
 Worth = Name → Option ℕ
 
@@ -48,6 +49,7 @@ by_name : (b : Bool) (x y z w : Option ℕ) (v : ℕ) → (x ≡ Some v → z �
 by_name true x y z w v first later e = first e
 by_name false x y z w v first later e = later e
 
+-- a flow looked up where more is known gives more
 pub looked_more : (less more : Worth) → IsMore more less → (flow : List Definition) → IsMore (looked_up more flow) (looked_up less flow)
 unfolding looked_up
 looked_more less more knows [] name v e = e
@@ -62,6 +64,7 @@ module _ (flow : List Definition) where
   turn_more zero name v e = absurd (cc)
   turn_more (suc k) name v e = looked_more (turn flow k) (turn flow (suc k)) (turn_more k) flow name v e
 
+  -- what is known after some turns is known after more
   pub turn_later : (k more : ℕ) → IsMore (turn flow (more + k)) (turn flow k)
   turn_later k zero name v e = rw (zero_plus k) e
     where
@@ -300,6 +303,7 @@ at_turn flow distinct _ _ (ruled name op left right a b there l r) =
     swap : (m k : ℕ) → m + k ≡ k + m
     swap m k = omega arith
 
+-- a value that a name has is found in as many turns as there are definitions
 pub has_turn : (flow : List Definition) → AreDistinct flow → (name : Name) (v : ℕ) → HasValue flow name v → value flow name ≡ Some v
 has_turn flow distinct name v h = let t = at_turn flow distinct name v h in enough flow t.k name v t.is
 
@@ -330,6 +334,7 @@ looked_has flow worth has (d ∷ part) among name v e =
         subst (λ n. HasValue flow n v) same (gives_has flow worth has d v (among d (0, omega arith, refl)) here)
     at false is on = on (ap (λ b. cond b (gives worth d) (looked_up worth part name)) is ∙ e)
 
+-- a value found in some turn is one that the name has
 pub turn_has : (flow : List Definition) (k : ℕ) (name : Name) (v : ℕ) → turn flow k name ≡ Some v → HasValue flow name v
 unfolding turn
 turn_has flow zero name v e = absurd (cc)

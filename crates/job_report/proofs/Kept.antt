@@ -58,6 +58,7 @@ cons_if : (hit : Bool) (g : Cells) (xs ys : List Cells) → (if hit then g ∷ (
 cons_if true g xs ys = refl
 cons_if false g xs ys = refl
 
+-- the solutions of a puzzle in two lists are those in each, one after the other
 pub found_append : (n : ℕ) (xs ys : List (ℕ × Cells)) → found_in n (xs ++ ys) ≡ found_in n xs ++ found_in n ys
 unfolding found_in
 found_append n [] ys = refl

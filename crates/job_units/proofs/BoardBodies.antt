@@ -127,6 +127,7 @@ unfolding board_of_body
 board_short body short = no_body Board has_grid board_body body (board_in body) (λ b grid e.
     let long : length body ≡ 12 + length b.grid = ap length e ∙ board_long b in omega arith)
 
+-- a body whose text is no grid is no board
 pub board_unread : (body : List ℕ) → ((g : Cells) → IsSudoku g → (None ≡ Some g) ↔ (drop 8 (drop 4 body) ≡ text_of g))
     → None ≡ board_of_body body
 unfolding board_of_body

@@ -13,12 +13,14 @@ one_if_kind kind unit = cond (is_kind kind unit) 1 0
 
 -- of units that are made alike, all are of one work type, and none is of another
 module _ (X : Type 0) (into : X → Made) (kind : ℕ) where
+  -- if each passes, all are counted
   pub all_counted : ((x : X) → is_kind kind (into x) ≡ true) → (xs : List X) → count_by (is_kind kind) (map into xs) ≡ length xs
   all_counted is [] = refl
   all_counted is (x ∷ xs) =
       let one : Bool → ℕ = λ b. cond b 1 0 in
       omega (arith, sum_by-cons (one_if_kind kind) (into x) (map into xs), ap one (is x), all_counted is xs)
 
+  -- if each fails, nothing is counted
   pub none_counted : ((x : X) → is_kind kind (into x) ≡ false) → (xs : List X) → count_by (is_kind kind) (map into xs) ≡ 0
   none_counted is [] = refl
   none_counted is (x ∷ xs) =

@@ -47,6 +47,7 @@ put_back unit kind prio target answer body common long fits put is =
     ∙ ap (λ b. unit_of (kind_of unit) (rank_for unit) b) parts.2
     ∙ read_back unit fits
 
+-- a unit that was put is read back from its fetch
 pub fetch_back : (unit : Made) (note : UnitNote) (target : Target) (body common : List ℕ) → IsUnit unit
     → put_of unit ≡ Put note.kind note.prio target note.answer body → note.length ≡ length body → fetched note (common ++ body) ≡ Some unit
 fetch_back unit note target body common fits put long =

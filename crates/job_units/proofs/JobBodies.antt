@@ -128,6 +128,7 @@ pub job_unlike : (body : List ℕ) → (length body ≡ 11 → ⊥) → None ≡
 unfolding job_of_body
 job_unlike body other = no_body Job any_job job_body body (job_in body) (λ j fine e. other (ap length e ∙ job_long j))
 
+-- a body whose bytes are no item is no job
 pub job_unread : (body : List ℕ) → ((i : Item) → drop 4 (drop 4 body) ≡ item_bytes i → ⊥) → None ≡ job_of_body body
 unfolding job_of_body
 job_unread body none = no_body Job any_job job_body body (job_in body) (λ j fine e. none j.item (ap (λ x. drop 4 (drop 4 x)) e ∙ job_end j))

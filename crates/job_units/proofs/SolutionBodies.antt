@@ -107,6 +107,7 @@ unfolding solution_of_body
 solution_short body short = no_body Solution has_grid solution_body body (solution_in body) (λ s grid e.
     let long : length body ≡ 4 + length s.grid = ap length e ∙ solution_long s in omega arith)
 
+-- a body whose text is no grid is no solution
 pub solution_unread : (body : List ℕ) → ((g : Cells) → IsSudoku g → (None ≡ Some g) ↔ (drop 4 body ≡ text_of g))
     → None ≡ solution_of_body body
 unfolding solution_of_body

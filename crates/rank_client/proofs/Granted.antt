@@ -142,6 +142,7 @@ count_keeps s kind g = record { held = g.held; fetching = tt; fetched = g.fetche
 done_keeps : (s : ClientModel) → IsGrantedFirst s → Keeps (set_done s)
 done_keeps s g = record { held = g.held; fetching = tt; fetched = g.fetched }
 
+-- opening a call keeps that units are granted first
 pub open_keeps : (s : ClientModel) (call : Call) (y : ClientResponse) → open_call s call ≡ Some y → IsGrantedFirst s → Keeps y
 open_keeps s (calls_to.Put kind prio target answer body) y is g =
     subst Keeps (if_is _ _ y is) (put_keeps s (unit_put s kind prio target answer body) s.end g)
@@ -264,6 +265,7 @@ hear_done_keeps s request tried from (tells.DoneHeard to) y is g =
     subst Keeps (if_is _ _ y is) (told_on_keeps s request tried (nat_lt (tried + 1) s.config.servers) g)
 hear_done_keeps s request tried from _ y is g = absurd (cc)
 
+-- an answer keeps that units are granted first
 pub answer_keeps : (s : ClientModel) (p : Pending) (from : Server) (m : Message) (y : ClientResponse) → s.pending ≡ p
     → answer_call s p from m ≡ Some y → IsGrantedFirst s → Keeps y
 answer_keeps s waits_for.Nothing from m y waits is g = absurd (cc)
@@ -302,6 +304,7 @@ heard s from letter x is g =
     let P : Made → Type 0 = λ z. IsGrantedFirst z.state in
     subst P y.2 (post_keeps y.0.says _ (answer_keeps t s.pending from letter.message y.0 refl y.1 g))
 
+-- in every run of a client, units are granted before they are held or fetched
 pub grants_come_first : GrantsComeFirst
 grants_come_first = record {
   at_start = started;

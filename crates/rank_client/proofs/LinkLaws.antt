@@ -111,6 +111,7 @@ made_again old new call trouble running was says seat closed failed begun = reco
 
 -- Of a link whose batch is that of its transcript while it has not failed.
 
+-- the link says that a batch goes on exactly if it has not failed and its transcript has one open
 abbrev pub HasBatch : LinkModel → Type 0
 HasBatch m = m.batch ≡ (is_open m.said && is_none m.failed)
 

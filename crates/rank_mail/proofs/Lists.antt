@@ -31,6 +31,7 @@ drop_past [] (suc n) h = refl
 drop_past (x ∷ xs) zero h = absurd (omega (arith, h))
 drop_past (x ∷ xs) (suc n) h = drop_past xs n (omega (arith, h))
 
+-- a list taken to its length is the list
 pub take_whole : {T : Type 0} (ts : List T) (n : ℕ) → n ≡ length ts → take n ts ≡ ts
 take_whole [] zero h = refl
 take_whole [] (suc n) h = refl
@@ -49,6 +50,7 @@ get_there [] k t e h = absurd (omega (arith, h))
 get_there (x ∷ xs) zero t e h = ap Some (sym e)
 get_there (x ∷ xs) (suc k) t e h = get_there xs k t e (omega (arith, h))
 
+-- setting an element to itself changes nothing
 pub set_same : {T : Type 0} (ts : List T) (k : ℕ) (t : T) → t ≡ get_or ts k t → set ts k t ≡ ts
 set_same [] k t e = refl
 set_same (x ∷ xs) zero t e = ap (λ y. y ∷ xs) e
@@ -60,26 +62,31 @@ upto f k [] = []
 upto f zero (x ∷ xs) = x ∷ xs
 upto f (suc k) (x ∷ xs) = f x ∷ upto f k xs
 
+-- the first 0 changed is the list
 pub upto_none : {A : Type 0} (f : A → A) (xs : List A) → upto f 0 xs ≡ xs
 upto_none f [] = refl
 upto_none f (x ∷ xs) = refl
 
+-- changing those before a place leaves the one at it
 pub upto_at : {A : Type 0} (f : A → A) (k : ℕ) (xs : List A) (d : A) → get_or (upto f k xs) k d ≡ get_or xs k d
 upto_at f k [] d = refl
 upto_at f zero (x ∷ xs) d = refl
 upto_at f (suc k) (x ∷ xs) d = upto_at f k xs d
 
+-- changing one more is changing the next
 pub upto_next : {A : Type 0} (f : A → A) (k : ℕ) (xs : List A) (d : A) → k < length xs
     → set (upto f k xs) k (f (get_or xs k d)) ≡ upto f (suc k) xs
 upto_next f k [] d h = absurd (omega (arith, h))
 upto_next f zero (x ∷ xs) d h = ap (λ l. f x ∷ l) (sym (upto_none f xs))
 upto_next f (suc k) (x ∷ xs) d h = ap (λ l. f x ∷ l) (upto_next f k xs d (omega (arith, h)))
 
+-- changing all up to the length is changing each
 pub upto_all : {A : Type 0} (f : A → A) (k : ℕ) (xs : List A) → k ≡ length xs → upto f k xs ≡ map f xs
 upto_all f k [] h = refl
 upto_all f zero (x ∷ xs) h = absurd (omega (arith, h))
 upto_all f (suc k) (x ∷ xs) h = ap (λ l. f x ∷ l) (upto_all f k xs (omega (arith, h)))
 
+-- one more of a list that is taken and mapped
 pub map_take_next : {A B : Type 0} (g : A → B) (k : ℕ) (xs : List A) (d : A) → k < length xs
     → map g (take k xs) ++ g (get_or xs k d) ∷ [] ≡ map g (take (suc k) xs)
 map_take_next g k [] d h = absurd (omega (arith, h))

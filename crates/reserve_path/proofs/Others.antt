@@ -47,5 +47,6 @@ none_others config me none =
     let count = length-map-range_with_len (behind config me) 1 (config.servers - 1) in
     omega (arith, long, count, config.servers_within.0)
 
+-- a server that is alone has no others
 pub alone : (config : Config) (me : Server) → config.servers ≡ 1 → others config me ≡ []
 alone config me one = ap (λ n. map (behind config me) (range_with_len 1 (n - 1))) one

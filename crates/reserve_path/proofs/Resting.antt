@@ -49,6 +49,7 @@ best_is q rank types id best =
     let there = best_there q rank types id best (free_from_best rank types q.units id ((best_walk rank types q.units id).0 best)) in
     (there.0, there.1, there.2.has_id)
 
+-- the unit that is granted is the best that is offered
 pub granted_is_best : (q : Queue) (rank : Rank) (types : Option (List WorkType)) (p : Placed) → best_for q rank types ≡ Some p
     → IsBest rank types q.units (id_of p)
 granted_is_best q rank types p is = by_best (best_of rank types q.units) refl
@@ -70,6 +71,7 @@ none_granted_is q rank types is = by_best (best_of rank types q.units) refl
     by_best None best = (no_best rank types q.units).0 best
     by_best (Some id) best = let there = best_is q rank types id best in let none = sym there.1 ∙ is in absurd (cc (none))
 
+-- if no unit is offered, none is granted
 pub none_is_granted : (q : Queue) (rank : Rank) (types : Option (List WorkType)) → (Any (IsOffered rank types) q.units → ⊥)
     → best_for q rank types ≡ None
 none_is_granted q rank types none = none_best q rank types ((no_best rank types q.units).1 none)
@@ -134,17 +136,21 @@ Rests q e = e.asked ≡ None → HasNoneFor q e.wish
 fits_less : (q r : Queue) (m : ParkedModel) → ((w : Wish) → HasNoneFor q w → HasNoneFor r w) → NoneFits q m → NoneFits r m
 fits_less q r m less rest = All-weaker (Rests q) (Rests r) (λ e rests idle. less e.wish (rests idle)) m.parked.waiting rest
 
+-- a grant leaves nothing that fits a rank that waits
 pub grant_rests : (q : Queue) (m : ParkedModel) (rank : Rank) (types : Option (List WorkType)) → NoneFits q m
     → NoneFits (with_grant q rank types) m
 grant_rests q m rank types = fits_less q (with_grant q rank types) m (none_pinned q rank (best_for q rank types))
 
+-- without one rank, nothing fits those that wait
 pub gone_rests : (q : Queue) (m : ParkedModel) (rank : Rank) → NoneFits q m → NoneFits q (gone m rank)
 gone_rests q m rank rest = All-filter (λ e. not (is_of rank e)) (Rests q) m.parked.waiting rest
 
+-- without one unit, nothing fits those that wait
 pub left_rests : (q : Queue) (m : ParkedModel) (id : UnitId) → NoneFits q m
     → NoneFits (record q { units = filter (has_other_id id) q.units }) m
 left_rests q m id = fits_less q (record q { units = filter (has_other_id id) q.units }) m (none_left q id)
 
+-- after a reserve nothing fits those that wait
 pub reserve_rests : (q : Queue) (m : ParkedModel) (w : Wish) → NoneFits q m
     → NoneFits (with_grant q w.rank w.types) (reserved m w (best_for q w.rank w.types))
 reserve_rests q m w rest = by_best (best_for q w.rank w.types) refl
@@ -173,6 +179,7 @@ turned_rests q test f e before after = by_test (test e) refl
     by_test true is = rw is (after is)
     by_test false is = rw is before
 
+-- after a rank was refused, nothing fits those that wait
 pub none_rests : (q : Queue) (m : ParkedModel) (rank : Rank) (e : Waiting) → IsParked m → entry_of m rank ≡ Some e → NoneFits q m
     → NoneFits (with_grant q rank e.wish.types) (after_none m rank (best_for q rank e.wish.types))
 none_rests q m rank e sound found rest = by_best (best_for q rank e.wish.types) refl
@@ -205,6 +212,7 @@ heard_rests q m from e before = by_asked e.asked refl
     by_asked None is = rw is (λ none. absurd (cc (none)))
     by_asked (Some s) is = rw is (λ none. absurd (cc (none)))
 
+-- after a hint nothing fits those that wait
 pub hint_rests : (q : Queue) (m : ParkedModel) (rank : Rank) (request : ℕ) (from : Server) → NoneFits q m
     → NoneFits q (hinted m rank request from)
 hint_rests q m rank request from rest =
@@ -230,6 +238,7 @@ not_taken : (unit : Unit) (e : Waiting) → takes unit.kind unit.target e ≡ fa
     → suits unit.kind unit.target e.wish ≡ false
 not_taken unit e fails idle = rw idle at fails
 
+-- after a unit is offered, nothing fits those that wait
 pub offer_rests : (q : Queue) (m : ParkedModel) (unit : Unit) → NoneFits q m
     → NoneFits (given (taker_of unit m) (record { unit = unit; pin = None }) (with_unit q unit)) (gone_if m (taker_of unit m))
 offer_rests q m unit rest = by_taker (taker_of unit m) refl
@@ -261,10 +270,12 @@ arrival_rests q m unit rest = by_taker (taker_of unit m) (offer_rests q m unit r
 wished_less : (q r : Queue) (m : ParkedModel) → ((w : Wish) → HasNoneFor q w → HasNoneFor r w) → NoneWished q m → NoneWished r m
 wished_less q r m less rest = All-weaker (HasNoneFor q) (HasNoneFor r) less m.parked.wishes rest
 
+-- a grant leaves nothing that fits a kept wish
 pub grant_wished : (q : Queue) (m : ParkedModel) (rank : Rank) (types : Option (List WorkType)) → NoneWished q m
     → NoneWished (with_grant q rank types) m
 grant_wished q m rank types = wished_less q (with_grant q rank types) m (none_pinned q rank (best_for q rank types))
 
+-- after an ask nothing fits a kept wish
 pub ask_wished : (q : Queue) (m : ParkedModel) (w : Wish) → NoneWished q m
     → NoneWished (with_grant q w.rank w.types) (after_ask m w (best_for q w.rank w.types))
 ask_wished q m w rest = by_best (best_for q w.rank w.types) refl
@@ -277,6 +288,7 @@ ask_wished q m w rest = by_best (best_for q w.rank w.types) refl
         All-filter (λ v. not (is_by w.rank v)) (HasNoneFor (pinned_to w.rank (Some p) q)) m.parked.wishes
         (wished_less q (pinned_to w.rank (Some p) q) m (none_pinned q w.rank (Some p)) rest)
 
+-- a unit that no wish is for leaves nothing that fits a kept wish
 pub hint_wished : (q : Queue) (m : ParkedModel) (unit : Unit) → NoneWished q m
     → hints_next unit.kind unit.target m.parked.wishes ≡ None → NoneWished (with_unit q unit) m
 hint_wished q m unit rest none k d within =

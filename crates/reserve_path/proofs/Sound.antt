@@ -147,6 +147,7 @@ module _ (m : ParkedModel) (w : Wish) (away : IsAway m.config m.me w.rank) (soun
           both_ways (is_by w.rank (get_or others k d)) (not-true (is_by w.rank (get_or others k d)) passes)
           (eq-eqb (get_or others k d).rank.0 w.rank.0 same)
 
+  -- without the rank's own wish there is room for it
   pub wish_left : length (filter (λ v. not (is_by w.rank v)) m.parked.wishes) < m.config.ranks
   wish_left =
       let most = wishes_few (wished m w) wished_sound w in
@@ -211,12 +212,14 @@ none_left [] none = refl
 none_left (s ∷ servers) none = absurd (cc (none))
 
 module _ (config : Config) (me : Server) where
+  -- the first server to ask is another
   pub first_other : (servers : List Server) → All (IsOther config me) servers → (s : Server) → slice_get servers 0 ≡ Some s
       → IsOther config me s
   first_other servers all s is =
       let read : get_or servers 0 s ≡ s = get_or_from_slice_get servers 0 s s is in
       subst (IsOther config me) read (all 0 s (slice_get_within servers 0 s is))
 
+  -- a rank that asks other servers waits as it should
   pub asking_waits : (w : Wish) (servers : List Server) → IsHere config me w.rank → All (IsOther config me) servers
       → IsWaiting config me (asking w servers)
   asking_waits w servers here all = record {

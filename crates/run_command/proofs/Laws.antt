@@ -10,6 +10,7 @@ module _ {A W K : Type 0} (asks : List ℕ → A → Type 0) (refuses : List ℕ
     (tells : A → K → List ℕ → Type 0) (long : A → Type 0) (before after : Scene) (kept : Option K) (bytes : List ℕ)
     (told : before.left ≡ Some bytes) (short : (asked : A) → asks bytes asked → long asked → ⊥)
   where
+    -- a run that ended well, and whose stamps cannot run out, ended without a fault or without memory
     pub short_fine : (fault : Option (Fault W)) → EndsBy asks refuses keeps tells long before after fault kept → IsFine fault →
         (fault ≡ None) ⊎ (fault ≡ Some Memory)
     short_fine None ends fine = inl refl

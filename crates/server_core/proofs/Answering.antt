@@ -177,6 +177,7 @@ module _ (s : ServerModel) (out : Out) (from : Server) (p : Place) (at : IsAsked
         asks = asks_of best;
       }
 
+-- what the home does after the answer of the server that was asked
 pub answered : (s : ServerModel) (out : Out) (from : Server) (rank : Rank) (request : ℕ) → IsParked (parked_of s)
     → IsUnanswered s from rank request → Answered s out from rank request
 answered s out from rank request sound is =

@@ -139,6 +139,7 @@ module _ (s : ServerModel) (alone : s.config.servers ≡ 1) where
         unfit = unfit_where s.kept found.0;
       }
 
+  -- a server that is alone and shuts down has no rank that waits
   pub shut_alone : (check_alone s).step ≡ Shutdown → s.kept.parked.waiting ≡ []
   shut_alone is = by_waiting s.kept.parked.waiting refl
     where

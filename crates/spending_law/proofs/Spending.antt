@@ -42,6 +42,7 @@ unfolding begins
 begins_none [] tasks = refl
 begins_none (unit ∷ units) tasks = begins_none units tasks
 
+-- a number if the test passes, and 0 otherwise
 abbrev pub if_so : Bool → ℕ → ℕ
 if_so true n = n
 if_so false n = 0

@@ -55,5 +55,6 @@ goes_front : (b : Books TourUnit) (said more : List Said) (last : Books TourUnit
 goes_front b [] more last goes = (b, refl)
 goes_front b (s ∷ said) more last goes = let later = goes_front goes.0 said more last goes.2 in (later.0, (goes.0, goes.1, later.1))
 
+-- the front of a transcript is a transcript so far
 pub so_front : (p : TourProgram) (said more : List Said) → IsSoFar p (said ++ more) → IsSoFar p said
 so_front p said more is = let front = goes_front (begins p) said more is.last is.goes in record { last = front.0; goes = front.1 }

@@ -17,6 +17,7 @@ use Rattle.tour_law.specs.Beginnings.{Continues, IsBeginning, IsOnce, path_cost}
 use Rattle.tour_law.proofs.Bound.{cut-above, cut-equal, way-split}
 use Rattle.tour_law.proofs.Once.{below-same, sum-times, times, times-same, times-other, tour-long, tour-once}
 
+-- a beginning of at least two cities: city 0, another, and the rest
 pub record HasShape (p : List ℕ) : Type 0 where
   pub a : ℕ
   pub q : List ℕ
@@ -41,6 +42,7 @@ full n p tour all is on = at on.0 on.1
         let both = ap length e in
         absurd (omega (arith, long, both, length-append p (x ∷ rest)))
 
+-- a tour goes on from a beginning with a new city
 pub record GoesOn (n : ℕ) (p tour : List ℕ) : Type 0 where
   pub x : ℕ
   pub below : x < n
@@ -132,6 +134,7 @@ whole n p is all =
 
 -- What it costs.
 
+-- the last city read at its place is the end
 pub end_is : (from : ℕ) (q : List ℕ) (d : ℕ) → get_or (from ∷ q) (length q) d ≡ end_of from q
 end_is from [] d = refl
 end_is from (x ∷ q) d = end_is x q d
@@ -200,6 +203,7 @@ then_greater Less p e = absurd (cc)
 then_greater Equal p e = inr (refl, e)
 then_greater Greater p e = inl refl
 
+-- a beginning that comes after another does not come before it, however it goes on
 pub greater_stays : (p rest known : List ℕ) → slice_cmp nat_cmp p (take (length p) known) ≡ Greater → IsBefore (p ++ rest) known → ⊥
 greater_stays [] rest known e before = absurd (cc)
 greater_stays (x ∷ p) rest [] e before = absurd (cc)

@@ -137,6 +137,7 @@ none_past n k (x ∷ t) within past =
     let first : x < n = All-head (λ y. y < n) x t within in
     times-other x k t (λ e. omega arith) ∙ none_past n k t (All-tail (λ y. y < n) x t within) past
 
+-- each tour is in the list
 pub tours_has : (n : ℕ) (t : List ℕ) → 1 ≤ n → IsTour n t → Contains (all_tours n) t
 tours_has n [] some is = absurd (let e = is.begins in cc)
 tours_has n (x ∷ t) some is =
@@ -181,6 +182,7 @@ counted_tour n t begins once none = record {
     eq_itself : (x : ℕ) → (x == x) ≡ true
     eq_itself x = eq-eqb x x refl
 
+-- each list in the list is a tour
 pub tours_only : (n : ℕ) (t : List ℕ) → 1 ≤ n → Contains (all_tours n) t → IsTour n t
 tours_only n t some there =
     let f = map_from (λ u. 0 ∷ u) (orders (n - 1) (range_with_len 1 (n - 1))) t there in
@@ -207,11 +209,13 @@ range_tour (suc n) some =
 
 -- The best.
 
+-- the best of a first tour and a list: it is one of them, and as good as each
 pub record IsBest (c : Costs) (t : List ℕ) (ts : List (List ℕ)) (b : List ℕ) : Type 0 where
   pub one_of : (b ≡ t) ⊎ Contains ts b
   pub good : IsAsGood c b t
   pub each : All (IsAsGood c b) ts
 
+-- the best that is picked is as good as the first and as each of the list
 pub best_is : (c : Costs) (t : List ℕ) (ts : List (List ℕ)) → IsBest c t ts (best c t ts)
 unfolding best
 best_is c t [] = record { one_of = inl refl; good = good_itself c t; each = λ k d below. absurd (omega arith) }

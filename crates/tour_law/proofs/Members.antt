@@ -79,6 +79,7 @@ All-there P (x ∷ xs) each =
 
 -- Counts.
 
+-- an element that is there and passes is counted
 pub there_counts : {X : Type 0} (p : X → Bool) (xs : List X) (x : X) → Contains xs x → p x ≡ true → 1 ≤ count_by p xs
 there_counts p [] x there passes = absurd (none_there x there)
 there_counts p (y ∷ xs) x there passes = elim (head_cases y x xs there) [
@@ -88,11 +89,13 @@ there_counts p (y ∷ xs) x there passes = elim (head_cases y x xs there) [
   | inr later ↦ omega (arith, there_counts p xs x later passes, sum_by-cons (λ z. cond (p z) 1 0) y xs)
 ]
 
+-- an element that is there and passes
 pub record Counted {X : Type 0} (p : X → Bool) (xs : List X) : Type 0 where
   pub x : X
   pub there : Contains xs x
   pub passes : p x ≡ true
 
+-- if something is counted, some element passes
 pub counted : {X : Type 0} (p : X → Bool) (xs : List X) → 1 ≤ count_by p xs → Counted p xs
 counted p [] some = absurd (omega arith)
 counted p (y ∷ xs) some = at (p y) refl (counted p xs)

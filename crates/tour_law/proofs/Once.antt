@@ -30,9 +30,11 @@ times-other x city xs other =
 pub times-more : (x city : ℕ) (xs : List ℕ) → times city xs ≤ times city (x ∷ xs)
 times-more x city xs = let e = sum_by-cons (λ y. cond (y == city) 1 0) x xs in omega (arith, e)
 
+-- without its head a list has each city once at most
 pub once-rest : (x : ℕ) (xs : List ℕ) → IsOnce (x ∷ xs) → IsOnce xs
 once-rest x xs once city = omega (arith, times-more x city xs, once city)
 
+-- a list without a city has a tail without it
 pub none-rest : (x city : ℕ) (xs : List ℕ) → times city (x ∷ xs) ≡ 0 → times city xs ≡ 0
 none-rest x city xs none = omega (arith, times-more x city xs)
 
@@ -42,6 +44,7 @@ none-head x city xs none same =
     let e : times city (x ∷ xs) ≡ times x (x ∷ xs) = ap (λ k. times k (x ∷ xs)) (sym same) in
     omega (arith, e, times-same x xs)
 
+-- the first two cities differ
 pub once-next : (x y : ℕ) (xs : List ℕ) → IsOnce (x ∷ y ∷ xs) → x ≡ y → ⊥
 once-next x y xs once same =
     let e : times x (y ∷ xs) ≡ times y (y ∷ xs) = ap (λ k. times k (y ∷ xs)) same in
@@ -49,6 +52,7 @@ once-next x y xs once same =
 
 -- Sums below a number.
 
+-- sums of equal terms are equal
 pub below-same : (n : ℕ) (f g : ℕ → ℕ) → ((k : ℕ) → k < n → f k ≡ g k) → sum_below n f ≡ sum_below n g
 unfolding sum_below
 below-same zero f g same = refl
@@ -97,6 +101,7 @@ one-more : (b : Bool) (t v : ℕ) → (cond b 1 0 + t) * v ≡ cond b v 0 + t * 
 one-more true t v = add-mul 1 t v ∙ ap (λ z. z + t * v) (one-mul v)
 one-more false t v = omega (arith, ap (λ z. z * v) (zero-add t))
 
+-- a sum over cities counts each as often as it is there
 pub sum-times : (n : ℕ) (f : ℕ → ℕ) (xs : List ℕ) → All (λ x. x < n) xs → sum_by f xs ≡ sum_below n (λ k. times k xs * f k)
 sum-times n f [] within = sym (below-same n (λ k. times k [] * f k) (λ k. 0) (λ k below. zero-mul (f k)) ∙ below-zero n)
 sum-times n f (x ∷ xs) within =

@@ -70,6 +70,7 @@ module _ (config : Config) (ledger : List Entry) (flow : List Definition) (outco
     over = r.follows.over;
   }
 
+  -- the run as the law of flows has it
   abbrev pub flow_run : IsFlowRun (forms config.ranks) config ledger flow
   flow_run rank below = rank_is rank (run.each rank below)
 

@@ -69,6 +69,7 @@ pub record IsOn {Made : Type 0} (next : Books Made) : Type 0 where
   pub holds : next.held ≡ None
   pub stays : next.on ≡ None
 
+-- a unit that is brought leaves the program going on
 pub brought_on : {Made : Type 0} (W : Work Made) (common : List ℕ) (o : Option Made) (came : List (Arrival Made))
     → IsOn (brought W common o came)
 brought_on W common None came = record { lives = refl; holds = refl; stays = refl }

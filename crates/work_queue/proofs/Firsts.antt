@@ -55,6 +55,7 @@ module _ (rank : Rank) (types : Option (List WorkType)) where
   pub best_is : (units : List Placed) (r : Rated) → Some r ≡ best_from rank types None units → IsBest rank types units r.id
   best_is units r same = leads_is_best units r (found_so units (Some r) same)
 
+  -- if the walk ends with a best, some unit is offered
   pub some_offered : (units : List Placed) (r : Rated) → Some r ≡ best_from rank types None units → Any (IsOffered rank types) units
   some_offered units r same =
       let some = some_may (offered rank types) (rating rank) beats (Precedes rank) (pick rank types) by_rating picks units r

@@ -150,6 +150,7 @@ module _ {R : Type 0} (may : Placed → Bool) (rate : Placed → R) (beats : R �
   pub found_all : (units : List Placed) → Found units (fold pick None units)
   found_all units = found_more [] units None (λ k q at. absurd (none-some q at))
 
+  -- if some rating leads, some unit may be taken
   pub some_may : (units : List Placed) (r : R) → Leads units r → Any (λ p. may p ≡ true) units
   some_may units r leads = (
     leads.place,
@@ -159,6 +160,7 @@ module _ {R : Type 0} (may : Placed → Bool) (rate : Placed → R) (beats : R �
     leads.is,
   )
 
+  -- if no rating is found, no unit may be taken
   pub none_may : (units : List Placed) → Found units None → Any (λ p. may p ≡ true) units → ⊥
   none_may units none some =
       both_ways (may some.1) (none some.0 some.1 (slice_get-get_or units some.0 some.1 some.2 ∙ ap (λ p. Some p) some.3)) some.4

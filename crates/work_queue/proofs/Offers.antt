@@ -97,6 +97,7 @@ passes_all a b c x y z rest last (inl lower) (inr tie) = inl (omega (arith, tie.
 passes_all a b c x y z rest last (inr even) (inl first) = inl (omega (arith, even.0))
 passes_all a b c x y z rest last (inr even) (inr tie) = inr (even.0 ∙ tie.0, above x y z rest last even.1 tie.1)
 
+-- a higher class, or the class and a higher priority, passes whatever comes last
 pub passes_one : (a b : ℕ) (x y : ℤ) (last : Type 0) → (b < a) ⊎ ((b ≡ a) × (x <ℤ y)) → ByClass b a (ByPriority y x last)
 passes_one a b x y last (inl lower) = inl lower
 passes_one a b x y last (inr even) = inr (even.0, inl even.1)

@@ -6,6 +6,7 @@ use Rattle.std.proofs.lemmas.Bool.{cases_lt}
 use Rattle.std.proofs.lemmas.List.{length-append, get_or_append_left, get_or-append-add, get_or_default}
 
 module _ (front back : List ℕ) (rises : AllPairs (λ a b. a < b) (front ++ back)) where
+  -- numbers that rise do so in the second list
   pub back_rises : AllPairs (λ a b. a < b) back
   back_rises i j d before within =
       let long = length-append front back in
@@ -68,6 +69,7 @@ pub last_read : (list : List ℕ) (last n : ℕ) → n ≡ length list → 0 < l
 last_read list last n n_is some read d =
     get_or_default list (length list - 1) d last (omega (arith, some)) ∙ sym (read ∙ ap (λ k. get_or list (k - 1) last) n_is)
 
+-- what follows of an option's value follows of the option
 pub after_some : {X : Type 0} (o : Option X) {A B : Type 0} → (A → B) → OnSome o A → OnSome o B
 after_some None f none = tt
 after_some (Some x) f some = f some

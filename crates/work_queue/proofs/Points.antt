@@ -22,6 +22,7 @@ parted_runs entries entry order i j d le within is = by_cases (cases_eq i j)
     by_cases (inl same) = rw same is
     by_cases (inr differs) = by_test (runs_before entry (get_or entries i d)) refl (omega arith)
 
+-- the point where a run ends, by the test as it is written
 pub run_point : (entries : List Entry) (entry : Entry) (n : ℕ) → IsPartitionPoint (λ x. not (runs_before entry x) ≡ true)
     (λ x. not (runs_before entry x) ≡ false) entries n
     → IsPartitionPoint (λ x. runs_before entry x ≡ false) (λ x. runs_before entry x ≡ true) entries n

@@ -22,6 +22,7 @@ pub only_promise : (promises : List Promise) (k i : ℕ) (d r : Promise) → Has
     → i < length promises → r ≡ get_or promises i r → (get_or promises k d).id ≡ r.id → get_or promises k d ≡ r
 only_promise promises k i d r distinct within at read same = only_one promised_id promises k d r distinct (i, at, sym read) within same
 
+-- the room of an id is the length of the promise that was found
 pub room_found : (promises : List Promise) (i : ℕ) (r : Promise) (id : UnitId) → HasDistinctPromises promises → i < length promises
     → r ≡ get_or promises i r → r.id ≡ id → (n : ℕ) → (Some r.length ≡ Some n) ↔ HasRoom id n promises
 room_found promises i r id distinct within read is n = (
@@ -30,6 +31,7 @@ room_found promises i r id distinct within read is n = (
       (ap promised_id has.3 ∙ has.4.0 ∙ sym is) in ap (λ m. Some m) (sym (ap (λ (p : Promise). p.length) at) ∙ has.4.1),
 )
 
+-- an id without a promise has no room
 pub room_missing : (promises : List Promise) (id : UnitId) → HasNoPromise id promises → (n : ℕ) → (None ≡ Some n) ↔ HasRoom id n promises
 room_missing promises id none n =
     (λ some. absurd (none-some n some), λ has. absurd (none has.0 has.1 has.2 (ap promised_id has.3 ∙ has.4.0)))
@@ -41,10 +43,12 @@ module _ (promises : List Promise) (i : ℕ) (r : Promise) (id : UnitId) (distin
   pub removed_is : remove promises i ≡ filter (is_for_other id) promises
   removed_is = remove_is promised_id promises i r id distinct within read is
 
+  -- each promise for the id has the length that was found
   pub length_told : All (λ (p : Promise). p.id ≡ id → r.length ≡ p.length) promises
   length_told k d in_list same =
       sym (ap (λ (p : Promise). p.length) (only_promise promises k i d r distinct in_list within read (same ∙ sym is)))
 
+  -- a removal leaves one promise less
   pub fewer_left : length (remove promises i) + 1 ≡ length promises
   fewer_left = length-remove promises i within
 

@@ -52,6 +52,7 @@ is_found test (y ∷ xs) (suc place) x at is fails =
     let here = fails zero y (omega arith) refl in
     rw here (is_found test xs place x at is (λ k z before there. fails (suc k) z (omega arith) there))
 
+-- if no element passes, nothing is found
 pub none_found : {X : Type 0} (test : X → Bool) (xs : List X) → ((k : ℕ) (y : X) → slice_get xs k ≡ Some y → test y ≡ false)
     → find test xs ≡ None
 none_found test [] fails = refl

@@ -46,6 +46,7 @@ module _ {X : Type 0} (R : X → X → Type 0) (xs : List X) (n : ℕ) (y : X) (
 
 -- an order by a test, which none passes with itself
 module _ {X : Type 0} (before : X → X → Bool) where
+  -- each element goes before all later ones
   abbrev pub InOrder : List X → Type 0
   InOrder xs = AllPairs (λ a b. before a b ≡ true) xs
 
@@ -68,6 +69,7 @@ module _ {X : Type 0} (before : X → X → Bool) where
       (λ k d from below. other k d below (point.1 k d from below))
 
   module _ (self : (a : X) → before a a ≡ false) where
+    -- elements in order differ
     pub differ_in_order : (xs : List X) → InOrder xs → AllPairs (λ a b. a ≢ b) xs
     differ_in_order xs order i j d first within same =
         both_ways (before (get_or xs i d) (get_or xs i d)) (self (get_or xs i d)) (rw (sym same) at (order i j d first within))
