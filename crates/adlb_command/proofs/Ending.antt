@@ -228,7 +228,7 @@ no_usage_made (Ok done) e = absurd (cc)
 no_usage_made (Err makes.Write) e = absurd (cc)
 no_usage_made (Err makes.Memory) e = absurd (cc)
 
--- status 2 comes only if the words say no command
+-- the fault of usage comes only if the words say no command
 pub usage_unsaid : (said : Option Command) (before after : Scene) (kept : Option AnyKept) →
     EndsAs said before after (Some Usage) kept → said ≡ None
 usage_unsaid None before after kept ends = refl

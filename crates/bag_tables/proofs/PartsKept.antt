@@ -71,7 +71,7 @@ parts_added places noted charges raised due more parts part at n kept last long 
   counted = omega (arith, counts, kept.counted, sum_by_push (λ p. cond (is_due p) 1 0) parts part);
 }
 
--- a charge has room for one part's bytes more
+-- a charge has room for `n` bytes more
 pub charge_fits : (charges : Charges) (parts : List Part) (n : ℕ) → IsSummed part_weight part_size charges parts → length parts < 2 ^ 64
     → n < 2 ^ 64 → (k : ℕ) → k < 8 → charged_at charges k + n < 2 ^ 128
 charge_fits charges parts n is few short = summed_fits part_weight part_size charges parts n is weight_low few short

@@ -280,7 +280,7 @@ slot_low : (k : ℕ) (slot : Option Promise) → slot_weight k slot ≤ slot_siz
 slot_low k None = omega arith
 slot_low k (Some p) = bytes_low (Some p.server) k p.length
 
--- a charge has room for one promise's bytes more
+-- a charge has room for `n` bytes more
 pub charge_fits : (charges : Charges) (slots : List (Option Promise)) (n : ℕ) → IsSummed slot_weight slot_size charges slots
     → length slots < 2 ^ 64 → n < 2 ^ 64 → (k : ℕ) → k < 8 → charged_at charges k + n < 2 ^ 128
 charge_fits charges slots n is few short = summed_fits slot_weight slot_size charges slots n is slot_low few short

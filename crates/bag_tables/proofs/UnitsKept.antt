@@ -118,7 +118,7 @@ charge_holds charges units at u n is inside here long k within =
     let held = rw here at (summed_holds unit_weight unit_size charges units at u is inside k within) in
     rw (long, ← weight_is k u) held
 
--- a charge has room for one unit's bytes more
+-- a charge has room for `n` bytes more
 pub charge_fits : (charges : Charges) (units : List Placed) (n : ℕ) → IsSummed unit_weight unit_size charges units → length units < 2 ^ 64
     → n < 2 ^ 64 → (k : ℕ) → k < 8 → charged_at charges k + n < 2 ^ 128
 charge_fits charges units n is few short = summed_fits unit_weight unit_size charges units n is weight_low few short

@@ -138,7 +138,7 @@ module _ (k : Server) where
       let own = well.own.servers k is.here in
       not_alone a (pool_of w k) is.sure (λ e. let c = ap (λ (x : Config). x.servers) own.config in absurd (omega arith))
 
-  -- what makes tokens void holds through the acts that follow
+  -- tokens that say nothing of the bag say nothing through the acts that follow
   pub follow_voids : (list : List Act) (w : World) (b : Bag) → 1 < w.config.servers → Holds w b → TakeNone list → AreActs w k list
       → Voids w b
       → Behind Voids (acted_all w k list)
@@ -162,7 +162,7 @@ module _ (k : Server) where
   abbrev IsPast : World → Type 0
   IsPast v = (pool_of v k).kept.ring.mark < (pool_of v k).activity
 
-  -- what tokens settle stays so through the acts that follow
+  -- what tokens say of the bag stays so through the acts that follow
   pub follow_settles : (up : Bool) (list : List Act) (w : World) (b : Bag) → 1 < w.config.servers → Holds w b → TakeNone list
       → AreActs w k list → Each (Suits up) list → (up ≡ true → IsPast w) → Settles w b
       → Behind Settles (acted_all w k list)

@@ -55,7 +55,7 @@ ready_is flow values place e asked there is d at =
     ap (ready_from values asked) (same_definition flow place d e there at) ∙ ap (λ a. ready_from values a d) (is d at)
     ∙ ready_by_inputs flow values d
 
--- lets are stored up to a let that is stored
+-- with its value stored, a let is one of those stored so far
 pub lets_after : (flow : List Definition) (values new : List (Option ℕ)) (place : ℕ) (e : Definition) (v : ℕ)
     → HasLetsTo flow values place →
     place < length values → slice_get flow place ≡ Some e → own_value e ≡ Some v → new ≡ slice_set values place (Some v) →
@@ -66,7 +66,7 @@ lets_after flow values new place (Let name w) v lets inside there own set =
     (let_stored flow values place name v lets (there ∙ ap (λ z. let o : Option Definition = Some (Let name z) in o) same) inside)
 lets_after flow values new place (Rule name op left right) v lets inside there own set = absurd (cc)
 
--- lets are stored up to a definition that is no let
+-- a definition without a value of its own is passed
 pub lets_passed : (flow : List Definition) (values : List (Option ℕ)) (place : ℕ) (e : Definition) → HasLetsTo flow values place →
     slice_get flow place ≡ Some e → own_value e ≡ None → HasLetsTo flow values (place + 1)
 lets_passed flow values place (Let name v) lets there own = absurd (cc)

@@ -362,7 +362,7 @@ module _ (F : Forms) where
     agrees = (is.agrees.0, inl (is.agrees.0 ∙ none));
   }
 
-  -- a rank without the flow may reserve
+  -- a rank without the flow that has tried its answers may reserve
   pub away_may : (said : List Said) (answers : List (ℕ × ℕ)) (is : IsGoing F None said (HasTried answers)) → MayReserve None is.desk
   away_may said answers is = is.agrees.1
 

@@ -338,7 +338,7 @@ each_within grain = record {
   at_fetched = λ came note bytes is other e. absurd (cc);
 }
 
--- a call inside a batch is one that may stand there
+-- a call inside a batch is one that may be made there
 pub goes_within : (p : PuzzleProgram) (said : List Said) (mid next : Books) (s : Said) (common : List ℕ) →
     Goes p.settings.grain (start_of p) said mid →
     Moves p.settings.grain mid s next → mid.on ≡ Some common → is_within s.call ≡ true

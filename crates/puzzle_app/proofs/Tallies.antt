@@ -288,7 +288,7 @@ pub record Same (d e : Desk) : Type 0 where
   pub jobs : e.jobs ≡ d.jobs
   pub answered : e.answered ≡ d.answered
 
--- a tally holds of a desk that is the same
+-- a tally holds of an equal desk, and for more calls
 pub tally_same : (p : PuzzleProgram) (came : List Arrival) (n m : ℕ) (d e : Desk) → IsTally p came n d → Same d e → n ≤ m →
     IsTally p came m e
 tally_same p came n m d e is same later = record {

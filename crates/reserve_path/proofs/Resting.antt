@@ -136,21 +136,21 @@ Rests q e = e.asked ≡ None → HasNoneFor q e.wish
 fits_less : (q r : Queue) (m : ParkedModel) → ((w : Wish) → HasNoneFor q w → HasNoneFor r w) → NoneFits q m → NoneFits r m
 fits_less q r m less rest = All-weaker (Rests q) (Rests r) (λ e rests idle. less e.wish (rests idle)) m.parked.waiting rest
 
--- a grant leaves nothing that fits a rank that waits
+-- a grant leaves nothing that fits an idle rank that waits
 pub grant_rests : (q : Queue) (m : ParkedModel) (rank : Rank) (types : Option (List WorkType)) → NoneFits q m
     → NoneFits (with_grant q rank types) m
 grant_rests q m rank types = fits_less q (with_grant q rank types) m (none_pinned q rank (best_for q rank types))
 
--- without one rank, nothing fits those that wait
+-- without one rank, nothing fits an idle rank that waits
 pub gone_rests : (q : Queue) (m : ParkedModel) (rank : Rank) → NoneFits q m → NoneFits q (gone m rank)
 gone_rests q m rank rest = All-filter (λ e. not (is_of rank e)) (Rests q) m.parked.waiting rest
 
--- without one unit, nothing fits those that wait
+-- without one unit, nothing fits an idle rank that waits
 pub left_rests : (q : Queue) (m : ParkedModel) (id : UnitId) → NoneFits q m
     → NoneFits (record q { units = filter (has_other_id id) q.units }) m
 left_rests q m id = fits_less q (record q { units = filter (has_other_id id) q.units }) m (none_left q id)
 
--- after a reserve nothing fits those that wait
+-- after a reserve nothing fits an idle rank that waits
 pub reserve_rests : (q : Queue) (m : ParkedModel) (w : Wish) → NoneFits q m
     → NoneFits (with_grant q w.rank w.types) (reserved m w (best_for q w.rank w.types))
 reserve_rests q m w rest = by_best (best_for q w.rank w.types) refl
@@ -179,7 +179,7 @@ turned_rests q test f e before after = by_test (test e) refl
     by_test true is = rw is (after is)
     by_test false is = rw is before
 
--- after a rank was refused, nothing fits those that wait
+-- after another server answers that it has none, nothing fits an idle rank that waits
 pub none_rests : (q : Queue) (m : ParkedModel) (rank : Rank) (e : Waiting) → IsParked m → entry_of m rank ≡ Some e → NoneFits q m
     → NoneFits (with_grant q rank e.wish.types) (after_none m rank (best_for q rank e.wish.types))
 none_rests q m rank e sound found rest = by_best (best_for q rank e.wish.types) refl
@@ -212,7 +212,7 @@ heard_rests q m from e before = by_asked e.asked refl
     by_asked None is = rw is (λ none. absurd (cc (none)))
     by_asked (Some s) is = rw is (λ none. absurd (cc (none)))
 
--- after a hint nothing fits those that wait
+-- after a hint nothing fits an idle rank that waits
 pub hint_rests : (q : Queue) (m : ParkedModel) (rank : Rank) (request : ℕ) (from : Server) → NoneFits q m
     → NoneFits q (hinted m rank request from)
 hint_rests q m rank request from rest =
@@ -238,7 +238,7 @@ not_taken : (unit : Unit) (e : Waiting) → takes unit.kind unit.target e ≡ fa
     → suits unit.kind unit.target e.wish ≡ false
 not_taken unit e fails idle = rw idle at fails
 
--- after a unit is offered, nothing fits those that wait
+-- after a unit is offered, nothing fits an idle rank that waits
 pub offer_rests : (q : Queue) (m : ParkedModel) (unit : Unit) → NoneFits q m
     → NoneFits (given (taker_of unit m) (record { unit = unit; pin = None }) (with_unit q unit)) (gone_if m (taker_of unit m))
 offer_rests q m unit rest = by_taker (taker_of unit m) refl

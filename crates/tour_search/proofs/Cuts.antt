@@ -16,7 +16,7 @@ none_chosen : (b : Bool) (i : ℕ) → cond b (Some i) None ≡ None → b ≡ f
 none_chosen true i e = absurd cc
 none_chosen false i e = refl
 
--- without a place, the place or length is the length
+-- if no element passes, the cut is at the end
 pub no_place : (p : ℕ → Bool) (xs : List ℕ) → position p xs ≡ None → position_or_len p xs ≡ length xs
 no_place p xs e =
     let le : length xs ≤ position_or_len p xs = ltb-false (position_or_len p xs) (length xs) (none_chosen _ (position_or_len p xs) e) in

@@ -14,7 +14,7 @@ use Rattle.work_queue.specs.inside.Counting.{info_with}
 abbrev pub told : ℕ → ℤ → ℕ → Info
 told free top at_top = record { free = free; top = Some top; at_top = at_top }
 
--- equal numbers and times make equal answers of a count
+-- counts of equal numbers and priorities are equal
 pub same_told : (f g : ℕ) (t u : ℤ) (a b : ℕ) → f ≡ g → t ≡ u → a ≡ b → told f t a ≡ told g u b
 same_told f g t u a b same_free same_top same_at = ap (λ n. told n t a) same_free ∙ ap (λ x. told g x a) same_top
     ∙ ap (λ n. told g u n) same_at
