@@ -39,8 +39,7 @@ IsFine (Some Memory) = Unit {0}
 IsFine (Some (TooLong stamp)) = Unit {0}
 IsFine fault = ⊥
 
--- Which fault of a command one of the words is; one of a run over puzzles and batches, or over cities, by what its reasons are; one of a
--- check or a drawing, and one of a making.
+-- Which fault of a command one of its parts is. The part is the words, a run with the reasons of its input, a check, a drawing or a making.
 
 abbrev pub fault_said : WordsFault → RunFault
 fault_said words.Usage = Usage

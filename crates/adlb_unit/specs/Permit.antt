@@ -6,8 +6,8 @@ use Rattle.adlb_unit.specs.declared.names.WorkType.{WorkType}
 use Rattle.adlb_unit.specs.declared.names.Target.{Target}
 use Rattle.adlb_unit.specs.declared.names.Target.TheVariants.{Any, Only, Soft}
 
--- the class of a target for an asking rank, the nearest first: 0 for this rank alone, 1 for this rank before others, 2 for any,
--- 3 for another rank before this one. A target that is another rank alone is of class 4, which is not given to the asking rank
+-- The class of a target for an asking rank, the nearest first. It is 0 for this rank alone, 1 for this rank before others, 2 for any, and 3
+-- for another rank before this one. A target that is another rank alone is of class 4, and its unit is not given to the asking rank.
 abbrev pub class_for : Rank → Target → ℕ
 class_for rank (Only only) = if only.0 == rank.0 then 0 else 4
 class_for rank (Soft first) = if first.0 == rank.0 then 1 else 3

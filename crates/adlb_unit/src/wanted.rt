@@ -107,8 +107,8 @@ impl Types {
     }
 }
 
-/// The class of a target for an asking rank (`class_for`), the nearest first: 0 for this rank alone, 1 for this rank before
-/// others, 2 for any, 3 for another rank before this one, and 4 for another rank alone.
+/// The class of a target for an asking rank (`class_for`), the nearest first. It is 0 for this rank alone, 1 for this
+/// rank before others, 2 for any, 3 for another rank before this one, and 4 for another rank alone.
 pub fn class_for(rank: Rank, target: Target) -> u8
     ensures { result ≡ class_for rank target }
 {

@@ -10,8 +10,8 @@ use Rattle.bag_ledger.specs.declared.entries.Call.{Call}
 use Rattle.bag_ledger.specs.declared.entries.Call.TheVariants as calls_to
 use Rattle.bag_ledger.specs.declared.entries.Said.{Said}
 
--- what whoever gets a unit sees of it: the work type, the priority, the answer rank, the common bytes if it was put in a batch, the
--- length of its own bytes that its note tells, and its own bytes
+-- What whoever gets a unit sees of it: its work type, priority, answer rank and own bytes, with their length that its note names. If it was
+-- put in a batch, it sees the common bytes too.
 pub record Parcel : Type 0 where
   pub kind : WorkType
   pub prio : ℤ

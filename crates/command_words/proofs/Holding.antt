@@ -67,8 +67,8 @@ name_no_group [] h j d lt = absurd (omega arith)
 name_no_group (x ∷ xs) h zero d lt = groups_none x (both _ _ h).0
 name_no_group (x ∷ xs) h (suc j) d lt = name_no_group xs (both _ _ h).1 j d (omega arith)
 
--- the command is simple, each of its rules of this name takes a number from `low` to `high`, and the name is neither empty nor that
--- of a flag of `clap`'s own
+-- The command is simple, and each of its rules of this name takes a number from `low` to `high`. The name is neither empty nor that of a
+-- flag of `clap`'s own.
 abbrev pub names : App → Text → ℕ → ℕ → Bool
 names app id low high = has_simple_rules app.top && (list_all (takes_number id low high) app.top.rules
     && (not (bytes_eq (codes "help") id) && (not (bytes_eq (codes "version") id) && not (is_empty id))))

@@ -40,8 +40,8 @@ AllOver b = (rank : Rank) (x : RankState) → rank_at b rank ≡ Some x → IsOv
 
 -- Of the ledger.
 
--- a server takes, refuses or grants what a rank brings or wants, or looks for it in vain; or room for a unit is promised or no longer
--- is, or the unit moves to another server
+-- A server takes, refuses or grants what a rank brings or wants, or looks for it in vain. Or room for a unit is promised or no longer is,
+-- or the unit moves to another server.
 abbrev pub is_work : Entry → Bool
 is_work (enters.Refused server id used) = true
 is_work (enters.Accepted server id) = true

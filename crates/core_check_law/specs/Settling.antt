@@ -1,5 +1,5 @@
--- What a token of wave 2 says of the bag: where the servers that it still has to visit are as at their marks, all is settled but for
--- what these may have that fits.
+-- What a token of wave 2 says of the bag. If the servers that it still has to visit are as at their marks, all is settled but for what fits
+-- at these.
 use Rattle.std.specs.Prelude.{◌≡◌, ◌<◌, ◌≤◌, ◌⊎◌, ℕ, false, List, [], filter, Some, None, IsFalse, map, ◌∷◌}
 use Rattle.std.specs.List.{list_any}
 use Rattle.adlb_unit.specs.Targets.{home}

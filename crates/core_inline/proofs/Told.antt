@@ -185,8 +185,8 @@ module _ (said : List Said) (call : Call) (w : World) (event : Event) (i : IsSta
     late = λ n long. let h = late n long in (h.0, omega (arith, h.1, i.few));
   }
 
-  -- The event failed: what is said of the call before it and after it is said of what it left, and the rank has heard what it had
-  -- before or what it would have after.
+  -- The event failed. What is said of the call before and after it is said of what it left. The rank has heard what it had before, or what
+  -- it would have after.
   pub stopped : (trouble : Trouble) (now : Seen) → Stops w event trouble now.world → IsFailed said call trouble now
   stopped Memory now stops =
       let cut = stops.leaves i.next i.happened in

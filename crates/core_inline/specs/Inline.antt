@@ -68,8 +68,8 @@ abbrev pub link_of : Run → LinkModel
 link_of run =
     record { seat = seat_of run; said = run.transcript; batch = batch_of run; failed = run.failed; begun = run.begun }
 
--- What the ledger says beyond the transcript, and which call was begun: nothing, and then the one that is pending in the bag, if any;
--- or that call with an answer which did not come back.
+-- What the ledger says beyond the transcript, and which call was begun. If it says nothing, the call is the one that is pending in the bag,
+-- if any. Otherwise it has the call with an answer that did not come back.
 abbrev pub IsOpen : Option Call → List Said → Option Call → Type 0
 IsOpen pending [] begun = begun ≡ pending
 IsOpen pending (s ∷ []) begun = (pending ≡ None) × (begun ≡ Some s.call)

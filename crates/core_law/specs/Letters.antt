@@ -60,8 +60,8 @@ finishes rank server = record {
   rank_due = at_rank rank (λ s. one s.finished);
 }
 
--- One letter: a request of the rank, an answer to it, a letter between servers about it, or that it waits and is idle, is there
--- exactly once while a call is pending, and otherwise not at all.
+-- While a call is pending, exactly one of four is there: its request, an answer to it, a letter between servers about it, or a rank that
+-- waits idle. Otherwise there is not one.
 
 -- a rank says it, and awaits an answer
 abbrev pub is_request : Message → Bool

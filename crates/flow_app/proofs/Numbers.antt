@@ -25,7 +25,7 @@ none_if : (b : Bool) (n : ℕ) → (b ≡ true → ⊥) → cond b (Some n) None
 none_if true n never = absurd (never refl)
 none_if false n never = refl
 
--- what is not written as a number below 2^64 is none that can be read
+-- what is not written as a number below 2^64 cannot be read as one
 pub no_number : (w : List ℕ) → ((n : ℕ) → n < 2 ^ 64 → w ≡ decimal n → ⊥) → number_in w ≡ None
 unfolding number_in
 no_number w none =

@@ -9,8 +9,8 @@ use Rattle.flow_app.specs.declared.faults.FlowWhy.{FlowWhy}
 use Rattle.flow_app.specs.declared.faults.FlowWhy.TheVariants.{Twice, Many}
 use Rattle.flow_app.specs.Kinds.{Kind, skipped, defines, bad, is_mark, kind_of}
 
--- the lines, each without the one carriage return at its end, if it has one: a line feed ends a line, and what follows the last line
--- feed is a line too, which may be empty
+-- The lines, each without the one carriage return at its end, if it has one. A line feed ends a line; what follows the last line feed is a
+-- line too, which may be empty.
 abbrev pub lines : List ℕ → List (List ℕ)
 lines bytes = map strip_carriage_return (slice_split (is_mark 10) bytes)
 

@@ -50,8 +50,8 @@ pub record HasLetsTo (flow : List Definition) (values : List (Option ℕ)) (k : 
   pub fresh : (i : ℕ) (name : Name) (v : ℕ) → k ≤ i → slice_get flow i ≡ Some (Let name v) → value_at values i ≡ None
   pub alone : AreLetsAlone flow values
 
--- What is right whatever the values are: each rule whose inputs have values is noted, but for those of `rest`, which may not be noted
--- yet; and what is ready is what is noted, each once.
+-- What is right whatever the values are: each rule whose inputs have values is noted, but for those of `rest`, which may follow. What is
+-- ready is what is noted, each once.
 pub record IsLaid (flow : List Definition) (values : List (Option ℕ)) (noted : List Bool) (ready : List ℕ) (next : ℕ)
     (rest : List ℕ) : Type 0 where
   pub long : length values ≡ length flow

@@ -14,9 +14,9 @@ use Rattle.work_law.specs.Work.{fetched_unit, put_of}
 use Rattle.work_law.specs.Books.{said_of}
 use Rattle.flow_run_law.specs.Units.{Answer, FlowUnit, Forms, IsRule, Rule, flows}
 
--- the values of rules that rank 0 stored; the rules that it put; the answers of fetched units that were not put yet; those that no server
--- took, the oldest first; whether the oldest was put once more since the last reserve; the unit that was granted and is to be fetched; and
--- whether an end was told
+-- The values of rules that rank 0 stored, and the rules that it put. The answers of fetched units that are still to be put, and those that
+-- no server took, the oldest first. Whether the oldest was put once more since the last reserve. The unit that was granted and is to be
+-- fetched; and whether an end was told.
 pub record Desk : Type 0 where
   pub stored : List (ℕ × ℕ)
   pub put : List ℕ

@@ -70,8 +70,8 @@ abbrev pub unit_fits : FlowUnit → Bool
 unit_fits (Rule i op a b) = nat_lt i (2 ^ 32) && (nat_lt a (2 ^ 64) && nat_lt b (2 ^ 64))
 unit_fits (Answer i v) = nat_lt i (2 ^ 32) && nat_lt v (2 ^ 64)
 
--- a rule is of type 0 and priority 0, for rank i mod R if another does not take it, with answers to rank 0; an answer is of type 1 and
--- priority 100, for rank 0 alone
+-- A rule is of type 0 and priority 0, for rank i mod R if another does not take it, with answers to rank 0. An answer is of type 1 and
+-- priority 100, for rank 0 alone.
 abbrev pub form_of : ℕ → FlowUnit → Form
 form_of ranks (Rule i op a b) = record {
   kind = record { 0 = 0 };

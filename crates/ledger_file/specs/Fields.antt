@@ -11,8 +11,8 @@ use Rattle.adlb_unit.specs.declared.names.Target.TheVariants as target
 use Rattle.adlb_unit.specs.declared.notes.End.{End}
 use Rattle.adlb_unit.specs.declared.notes.End.TheVariants as ends
 
--- a field by its kind: numbers of 32 and 64 bits, a priority, the id of a unit or batch by its rank and number, a target, a rank
--- or none, a priority or none, the wanted types, bytes, and an end that is told
+-- A field by its kind: numbers of 32 and 64 bits, a priority, the id of a unit or batch by its rank and number, a target. Or a rank or a
+-- priority that may be missing, the wanted types, bytes, and an end that is told.
 pub data Field : Type 0 where
   u32 : ℕ → Field
   u64 : ℕ → Field

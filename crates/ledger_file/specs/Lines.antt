@@ -82,8 +82,8 @@ BeginsWithEntry bytes = (e : Entry) × (after : List ℕ) × IsEntry e × (bytes
 abbrev pub BeginsWithEnd : ℕ → List ℕ → Type 0
 BeginsWithEnd n bytes = (after : List ℕ) × (bytes ≡ line (last_row n) ++ after)
 
--- the first line, counted from 1, that is not what is due at its place: it is no first line; or the lines before are the first and
--- those of entries, and it is neither the line of an entry nor the last line after these; or the text has ended, and something follows
+-- The first line, counted from 1, that is not what is due at its place. It is no first line; or the lines before are the first and those of
+-- entries, and it is neither the line of an entry nor the last line. Or the text has ended, and something follows.
 pub data IsFirstBad (bytes : List ℕ) (at : ℕ) : Type 0 where
   no_first : ((config : Config) (after : List ℕ) → bytes ≡ line (first_row config) ++ after → ⊥) → at ≡ 1 → IsFirstBad bytes at
   no_next : (config : Config) (entries : List Entry) (rest : List ℕ) → AreEntries entries → bytes ≡ open_text config entries ++ rest →

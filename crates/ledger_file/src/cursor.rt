@@ -1,5 +1,5 @@
-//! Lists of bytes that are cut at a byte: a line at its blanks, a list of types at its commas, an id at its dot, a
-//! text at its line feeds.
+//! Lists of bytes that are cut at a byte: a line at blanks, a list of types at commas, an id at its dot, a text at
+//! line feeds.
 
 ghost use Rattle.std.specs.Prelude.{◌≡◌, ◌∷◌, [], MatchOption, true};
 ghost use Rattle.ledger_file.specs.inside.Reading.{IsCut, free, parts_left, parts_of};

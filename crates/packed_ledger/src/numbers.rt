@@ -111,7 +111,7 @@ pub(crate) fn read_short_part(bytes: &[u8], marked: u8) -> (u32, &[u8])
     read_short(bytes)
 }
 
-/// The byte in front, or 0 if there is none, and what follows it.
+/// The first byte, or 0 without one, and what follows it.
 pub(crate) fn read_byte(bytes: &[u8]) -> (u8, &[u8])
     ensures { (b : ℕ) (rest : List ℕ) → bytes.now ≡ b ∷ rest → (result.0 ≡ b) × (result.1.now ≡ rest) }
 {

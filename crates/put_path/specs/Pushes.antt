@@ -144,8 +144,7 @@ abbrev pub IsPromise : Queue → UnitId → ℕ → Bool → Queue → Type 0
 IsPromise old id n true new = (charge_of old + n ≤ old.limit) × (new ≡ with_promise old id n)
 IsPromise old id n false new = Exceeds old n × (new ≡ old)
 
--- at the server that asked, after a promise: the unit goes, which is free and is then gone from the queue; or it is free no
--- longer, and a cancel goes
+-- At the server that asked, after a promise. The unit, if it is free, goes and is then gone from the queue; otherwise a cancel goes.
 abbrev pub IsSending : Queue → Server → UnitId → Push → Queue → Type 0
 IsSending old to id (Go server unit) new =
     (server ≡ to) × HasFree id old.units × All (λ p. id_of p ≡ id → unit ≡ p.unit) old.units × (new ≡ without old id)

@@ -18,8 +18,8 @@ use Rattle.job_units.specs.Reading.{common_bytes, own_bytes}
 use Rattle.puzzle_app.specs.Arrivals.{Arrival, arrival, bytes_on, makes}
 use Rattle.puzzle_app.specs.Tasks.{Task, Put, Begin, End, as_units, put_all}
 
--- what the rank is still to do, in order; the common bytes of the batch that is going on; the unit that was granted and is to be
--- fetched; the units that came to the rank, in order; and whether an end was told
+-- What the rank is still to do, in order. The common bytes of the batch that is going on, and the unit that was granted and is to be
+-- fetched. The units that came to the rank, in order, and whether an end was told.
 pub record Books : Type 0 where
   pub tasks : List Task
   pub on : Option (List ℕ)
@@ -40,8 +40,8 @@ shut tasks on came = record { tasks = tasks; on = on; held = None; came = came; 
 abbrev pub received : ℕ → Arrival → List Task → Option (List ℕ) → List Arrival → Books
 received grain a tasks on came = going (put_all (makes grain a) ++ tasks) on (came ++ a ∷ [])
 
--- these are the bytes of a fetch of this unit: the note has the work type and the answer rank of a put of it, whose body is what the
--- fetch gave after the common bytes
+-- These are the bytes of a fetch of this unit. The note has the work type and the answer rank of a put of it, whose body is what the fetch
+-- gave after the common bytes.
 pub record IsFetchOf (note : UnitNote) (bytes : List ℕ) (unit : Made) : Type 0 where
   pub form : IsUnit unit
   pub prio : ℤ

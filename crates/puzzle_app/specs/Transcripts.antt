@@ -60,8 +60,8 @@ abbrev pub units_in : Option Made → List Made
 units_in None = []
 units_in (Some unit) = unit ∷ []
 
--- what comes to the rank with a call, as the calls that put it: a unit that no server takes; one that is fetched, whose note the call
--- before has; and the jobs of a batch that no server takes
+-- What comes to the rank with a call, as the calls that put it. It is a unit that no server takes; one that is fetched, whose note the call
+-- before has; or the jobs of a batch that no server takes.
 abbrev pub comes : Option UnitNote → List (List Job) → Call → Answer → List Call
 comes held batches (calls_to.Put kind prio target answer body) answers.Rejected = calls_to.Put kind prio target answer body ∷ []
 comes (Some note) batches (calls_to.Fetch id) (answers.Body bytes) = calls_of (units_in (fetched note bytes))

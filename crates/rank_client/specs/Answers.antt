@@ -21,8 +21,8 @@ abbrev pub troubled : Result Answer Trouble → Option Trouble
 troubled (Ok answer) = None
 troubled (Err trouble) = Some trouble
 
--- what a put and the beginning of a batch can be answered, what a reserve, what a try, what a fetch, what the end of a batch, of the
--- problem and Finish, and what a count
+-- What a put and the beginning of a batch can be answered, a reserve, a try, a fetch and a count. Also the end of a batch and of the
+-- problem, and Finish.
 abbrev pub answers_put : Answer → Bool
 answers_put answers.Fine = true
 answers_put answers.Rejected = true
@@ -71,9 +71,9 @@ heeds_end (calls_to.Try types) = true
 heeds_end (calls_to.BeginBatch common) = true
 heeds_end _ = false
 
--- The rank can make the call, in a run with these numbers of ranks and servers: a put with a body of at most 2^20 bytes for a rank of
--- the run; a reserve; a try; a fetch of a unit that was granted and not fetched; the end of the batch that is going on; a count; that
--- the problem is done; or, while no batch is, the beginning of one with a common part of at most 2^20 bytes, or Finish.
+-- The rank can make the call, in a run with these numbers of ranks and servers. A reserve, a try, a count, and that the problem is done it
+-- always can. A put has a body of at most 2^20 bytes and is for a rank of the run. A fetch is of a unit that was granted and not fetched. A
+-- batch that is going on can be ended. While no batch is, one can begin, with a common part of at most 2^20 bytes, and so can Finish.
 abbrev pub CanCall : ℕ → ℕ → List Said → Call → Type 0
 CanCall ranks servers said (calls_to.Put kind prio target answer body) = (length body ≤ body_limit) × Aims target ranks
 CanCall ranks servers said (calls_to.Reserve types) = Unit {0}

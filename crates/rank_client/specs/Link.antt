@@ -73,9 +73,9 @@ abbrev pub count_came : Result Info Trouble → Result Answer Trouble
 count_came (Ok info) = Ok (answers.Info info)
 count_came (Err trouble) = Err trouble
 
--- What a call asks for besides that the rank runs: of a put a body of at most 2^20 bytes and a target that is a rank; of a fetch that the
--- unit was not fetched; of the beginning of a batch a common part of at most 2^20 bytes and no batch; of its end a batch; of Finish that
--- no batch goes on.
+-- What a call asks for besides that the rank runs. A put asks for a body of at most 2^20 bytes and a target that is a rank; a fetch, that
+-- the unit was not fetched. The beginning of a batch asks for a common part of at most 2^20 bytes and no batch, its end for a batch, and
+-- Finish, that no batch goes on.
 abbrev pub Suits : LinkModel → Call → Type 0
 Suits m (calls_to.Put kind prio target answer body) = (length body ≤ body_limit) × Aims target m.seat.ranks
 Suits m (calls_to.Fetch id) = is_fetched id m.said ≡ false

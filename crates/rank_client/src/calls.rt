@@ -76,10 +76,11 @@ fn farewells(sent: &mut Vec<u64>, stamp: u64, servers: u32, sends: Vec<Sending>)
 }
 
 impl ClientCore {
-    /// The rank is ready for this call: no call is pending, it has not finished, and the call's own conditions hold. The body of a
-    /// put has at most `2^20` bytes, and a rank that its target names is one of the run; a unit that is fetched is held; no batch is
-    /// going on when one begins, whose common part has at most `2^20` bytes, nor at Finish; and one is when it ends. A reserve, a
-    /// try, a count and that the problem is done have no such condition.
+    /// The rank is ready for this call: no call is pending, it has not finished, and the call's own conditions hold.
+    /// The body of a put has at most `2^20` bytes, and a rank that its target names is one of the run. A unit that is
+    /// fetched is held. No batch is going on when one begins, whose common part has at most `2^20` bytes, nor at
+    /// Finish. One is going on when it ends. A reserve, a try, a count and that the problem is done have no such
+    /// condition.
     pub fn ready(&self, call: &Call) -> bool
         ensures { IsTrue result ↔ IsSome (begin self.now call.now) }
     {

@@ -5,7 +5,7 @@ use Rattle.run_command.specs.Ends.{Asks, EndsBy, IsFine, Keeps, Scene, input_lim
 use Rattle.run_command.specs.declared.faults.Fault.{Fault}
 use Rattle.run_command.specs.declared.faults.Fault.TheVariants.{Input, Read, Write, NoThread, Memory, TooLong, TooLarge}
 
--- Nothing but memory fails of an input whose run may not be so long, if nothing else does that is told of the outside.
+-- If the run of an input cannot be so long, and nothing outside fails, nothing but memory does.
 module _ {A W K : Type 0} (asks : List ℕ → A → Type 0) (refuses : List ℕ → ℕ → W → Type 0) (keeps : A → K → Type 0)
     (tells : A → K → List ℕ → Type 0) (long : A → Type 0) (before after : Scene) (kept : Option K) (bytes : List ℕ)
     (told : before.left ≡ Some bytes) (short : (asked : A) → asks bytes asked → long asked → ⊥)

@@ -1,5 +1,5 @@
--- How a command that runs a rank program over an input ends. What its input asks (`asks`), which line of it is refused and why
--- (`refuses`), what is kept of a run over what is asked (`keeps`), and what is written of it (`tells`) are the command's own.
+-- How a command that runs a rank program over an input ends. The command's own are what its input asks (`asks`), which line is refused and
+-- why (`refuses`), what is kept of a run (`keeps`), and what is written of it (`tells`).
 use Rattle.std.specs.Prelude.{◌≡◌, ◌↔◌, ◌<◌, ◌≤◌, ◌+◌, ◌^◌, ℕ, Bool, true, List, length, Option, Some, None, IsSome}
 use Rattle.adlb_io.specs.Inputs.{HasMore, IsAtEnd}
 use Rattle.adlb_io.specs.Outside.{Rises, Takes}
@@ -11,8 +11,8 @@ use Rattle.run_command.specs.declared.faults.Fault.TheVariants.{Input, Read, Wri
 abbrev pub input_limit : ℕ
 input_limit = 2 ^ 24
 
--- what is seen of the outside: what the source has left and the sink took, their counts of faults, that all is flushed, and how many
--- starts of threads were refused and how many were not
+-- What is seen of the outside: what the source has left and the sink took, their counts of faults, and that all is flushed. Also how many
+-- starts of threads were refused and how many were not.
 pub record Scene : Type 0 where
   pub left : Option (List ℕ)
   pub reads : ℕ

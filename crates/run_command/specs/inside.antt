@@ -35,8 +35,8 @@ IsRefusal refuses (Input line why) = refuses line why
 IsRefusal refuses Memory = Unit {0}
 IsRefusal refuses fault = ⊥
 
--- why an input has no answer, with what its source has left, the counts of its faults and those of refused starts, before and after; what
--- it asks may be so long if the stamps ran out
+-- Why an input has no answer, with what its source has left, the counts of its faults and those of refused starts, before and after. If the
+-- stamps ran out, what it asks may be that long.
 abbrev pub Stops : {A W : Type 0} → (List ℕ → A → Type 0) → (List ℕ → ℕ → W → Type 0) → (A → Type 0) → Option (List ℕ) → Option (List ℕ)
     → ℕ → ℕ → ℕ → ℕ → Fault W → Type 0
 Stops asks refuses long left left' reads reads' refused refused' (Input line why) =

@@ -1,4 +1,4 @@
--- One element of a list in which each has a number of its own: those before it, and those behind.
+-- One element of a list in which each has a number of its own: those before it, and those after.
 use Rattle.std.proofs.Common.{◌≡◌, ◌≢◌, ◌+◌, ◌==◌, ℕ, suc, Bool, true, false, ◌&&◌, ◌||◌, not, cond, List, [], ◌∷◌, ◌++◌, length, filter}
 use Rattle.std.proofs.Common.{find, get_or, Some, All, refl, sym, ap, ◌∙◌, arith, length-append}
 use Rattle.std.specs.List.{AllPairs, list_any}

@@ -223,7 +223,7 @@ module _ (s : ServerModel) (sound : IsParked (parked_of s)) (kind : WorkType) (t
       let now = subst (λ (k : Rank × ℕ). HintTold s kind target (without (Some w.0)) k.0 k.1) w.2 (hints w.0 w.1) in
       subst (λ v. HintTold s kind target v rank request) (sym (made ∙ ap without w.1)) now
 
-  -- or there is none
+  -- or there is no such wish
   pub no_more : {u : ServerModel} → u ≡ unwished_next kind target s → None ≡ option_map call_of named → (unit : Unit) → unit.kind ≡ kind
       → unit.target ≡ target → hint_all unit u.kept.parked.wishes ≡ []
   no_more made told unit same_kind same_target =

@@ -1,4 +1,4 @@
--- The bytes of the parts that are kept, all together, and what is told of a part.
+-- The bytes of the parts that are kept, all together, and what is said of a part.
 use Rattle.std.proofs.Common.{◌≡◌, ◌≤◌, ◌<◌, ◌+◌, ◌↔◌, ◌∙◌, ℕ, Bool, true, false, cond, not, [], ◌∷◌, length, Option, None, Some, IsTrue}
 use Rattle.std.proofs.Common.{refl, sym, ap, subst, arith}
 use Rattle.std.specs.Prelude.{if◌then◌else◌, nat_le, nat_lt}
@@ -105,7 +105,7 @@ changed_within f keeps store batch q charged = by_due (frees f store batch)
     by_due true = let left = left_within store batch in omega (arith, left, charged)
     by_due false = rw (turned_same f keeps store batch) charged
 
--- What is told of a part is so of the one that is there.
+-- What is said of a part is so of the one that is there.
 
 told_there : (store : Store) (batch : BatchId) (n : ℕ) (a : Option ℕ) → option_map counts (part_in store batch) ≡ Some (n, a)
     → (p : Part) × (part_in store batch ≡ Some p) × (p.fetches ≡ n) × (p.accepted ≡ a)

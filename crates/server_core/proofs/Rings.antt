@@ -1,4 +1,4 @@
--- Among the servers behind this one each stands once.
+-- Each server is once among those after this one.
 use Rattle.std.proofs.Common.{◌≡◌, ◌≢◌, ◌<◌, ◌≤◌, ◌+◌, ◌-◌, ◌*◌, ◌%◌, ◌==◌, ◌⊎◌, inl, inr, ℕ, zero, suc, Bool, true, false, ◌||◌, [], ◌∷◌}
 use Rattle.std.proofs.Common.{filter, map, refl, sym, ap, ◌∙◌, arith}
 use Rattle.std.specs.List.{range_with_len}
@@ -10,7 +10,7 @@ use Rattle.adlb_unit.specs.declared.names.Server.{Server}
 use Rattle.reserve_path.specs.Calls.{with_server}
 use Rattle.reserve_path.specs.Parked.{IsOther}
 
--- the number of the server that is so many places behind this one
+-- the number of the server `k` places after this one
 behind_is : (config : Config) (me : Server) (k : ℕ) → me.0 < config.servers → k < config.servers
     → (((me.0 + k) < config.servers) × ((behind config me k).0 ≡ me.0 + k))
     ⊎ ((config.servers ≤ (me.0 + k)) × ((behind config me k).0 ≡ me.0 + k - config.servers))

@@ -50,7 +50,7 @@ alone_where rank waiting before e behind once stands own =
       behind = subst (λ n. All (F n) behind) is (behind_others number before e behind apart);
     }
 
--- so who is found by a test that tells of the rank
+-- so is who is found by a test that passes this rank alone
 pub alone_at : (rank : Rank) (test : Waiting → Bool) → ((e : Waiting) → test e ≡ true → is_of rank e ≡ true) → (waiting : List Waiting)
     → AllPairs AreApart waiting → (p : Place) → place_in test waiting ≡ Some p → IsAlone rank waiting p × (test p.here ≡ true)
 alone_at rank test tells waiting once p found =
@@ -64,7 +64,7 @@ alone_found rank waiting once e found =
     let at = found_split (is_of rank) waiting e found in
     (place at.before e at.behind, alone_where rank waiting at.before e at.behind once at.stands at.passes, refl)
 
--- a test that tells of the rank fails for others
+-- a test that passes this rank alone fails for others
 pub fails_for : (rank : Rank) (test : Waiting → Bool) → ((e : Waiting) → is_of rank e ≡ false → test e ≡ false) → (xs : List Waiting)
     → NonePasses (is_of rank) xs → NonePasses test xs
 fails_for rank test tells xs none =
@@ -101,7 +101,7 @@ module _ (rank : Rank) (waiting : List Waiting) (p : Place) (alone : IsAlone ran
   pub one_more : length waiting ≡ suc (length (p.at.before ++ p.at.behind))
   one_more = ap (λ (l : List Waiting). length l) alone.stands ∙ one_fewer p.at.before p.here p.at.behind
 
--- What is told of a rank.
+-- What is said of a rank.
 
 -- what is said of a rank that waits: its request, and who is asked for it
 abbrev pub told_of : List Waiting → Rank → Option (ℕ × Option Server)

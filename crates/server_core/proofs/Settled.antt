@@ -56,7 +56,7 @@ taker_here unit waiting =
     ∙ ap (λ o. or_else o (here_of (place_in (is_idle_for unit) waiting))) (here_found (is_idle_first unit) waiting)
     ∙ ap (λ o. or_else (find (is_idle_first unit) waiting) o) (here_found (is_idle_for unit) waiting)
 
--- What is told of the free unit.
+-- What is said of the free unit.
 
 -- a unit's work type and target
 abbrev pub kind_and_target : Placed → WorkType × Target

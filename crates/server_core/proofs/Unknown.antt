@@ -7,7 +7,7 @@ use Rattle.bag_ledger.proofs.Tests.{some_is}
 use Rattle.work_queue.specs.Queue.{HasNoPromise, HasPromise, HasRoom, Promise}
 use Rattle.work_queue.proofs.Conditions.{no_promise, promise_from_room}
 
--- what is told of room
+-- what is said of room
 pub unpromised : (id : UnitId) (promises : List Promise) (o : Option ℕ) → ((n : ℕ) → (o ≡ Some n) ↔ HasRoom id n promises)
     → (is_some o ≡ false) ↔ HasNoPromise id promises
 unpromised id promises None told = (λ none. no_promise promises id (λ n has. let some = (told n).1 has in absurd (cc)), λ none. refl)

@@ -53,7 +53,7 @@ stepped step out s =
     let t = all_counted s (step_says step s) in
     going_on (out_after out (step_says step s) (step_enters step) s) (step_tells step s.kept.parked.waiting) t
 
--- at most so many letters, and entries, besides those to ranks
+-- at most this number of letters, and of entries, besides those to ranks
 abbrev pub step_letters : RingStep → ServerModel → ℕ
 step_letters Exhausted s = s.config.servers
 step_letters Shutdown s = s.config.servers

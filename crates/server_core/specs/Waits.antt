@@ -1,4 +1,4 @@
--- What becomes of those that wait at a server, and what is told of it.
+-- What becomes of those that wait at a server, and what is said then.
 use Rattle.std.specs.Prelude.{ℕ, Bool, true, false, List, Option, None, Some}
 use Rattle.adlb_unit.specs.declared.actors.Actor.TheVariants as by
 use Rattle.adlb_unit.specs.declared.messages.Message.TheVariants as tells
@@ -47,7 +47,7 @@ with_parked s queue parked = record s { kept = record s.kept { queue = queue; pa
 abbrev pub pinning : ServerModel → Rank → Option Placed → ParkedModel → ServerModel
 pinning s rank o m = with_parked s (pinned_to rank o s.kept.queue) m.parked
 
--- a rank seeks a unit, and waits if there is none
+-- a rank seeks a unit, and waits without one
 abbrev pub sought : ServerModel → Wish → ServerModel
 sought s wish =
     let best = best_for s.kept.queue wish.rank wish.types in

@@ -80,19 +80,19 @@ pub data Act : Type 0 where
   -- a rank that waits and is idle gets a unit, or is told an end
   Gives : Around → Wish → List Server → Unit → Act
   Tells : Around → Wish → List Server → End → Act
-  -- of a rank that waits the next server is asked; that server has pinned a unit to it, which it is told, or had no unit, so that it is
-  -- idle; another server has a unit for it by now, and is among those still to be asked; and a hint that comes too late
+  -- For a rank that waits the next server is asked. That server has pinned a unit to it, which it is told, or had no unit, so that it is
+  -- idle. Another server has a unit for it by now, and is among those still to be asked. A hint comes too late.
   Asks_on : Around → Wish → Server → List Server → Act
   Passes_on : Around → Wish → Server → List Server → UnitNote → Act
   Wakes : Around → Wish → Server → List Server → Act
   Is_hinted : Around → Waiting → Server → Act
   Drops_hint : Server → Rank → ℕ → Act
-  -- the home of a rank asks for it: a unit is pinned to the rank, or its wish is kept; and its home is told that there is a unit by now
+  -- The home of a rank asks for it: a unit is pinned to the rank, or its wish is kept. Its home is told that there is a unit by now.
   Answers : Server → Wish → Unit → Act
   Declines : Server → Wish → Act
   Hints : Wish → Act
-  -- a unit is to move to a server where there is room: that server is asked for room; it promises it, or has no room; the unit goes, or
-  -- it is no longer free and the push is taken back; the push has ended, since there was no room or by its acknowledgement
+  -- A unit is to move to a server where there is room. That server is asked for room; it promises it, or has no room. The unit goes, or it
+  -- is no longer free and the push is taken back. The push has ended, since there was no room or by its acknowledgement.
   Queries : Server → UnitId → ℕ → Act
   Promises : Server → UnitId → ℕ → Act
   Refuses_push : Server → UnitId → ℕ → Act
@@ -111,8 +111,8 @@ pub data Act : Type 0 where
   Notices : Act
   Notes_own : Act
   Wants : Server → Act
-  -- server 0 starts a check; in the first wave another server takes its mark; after its tests a server sends the token on in the second
-  -- wave, or tells server 0 of the test that fails; the check ends without a verdict, where the token is, or as server 0 is told
+  -- Server 0 starts a check. In the first wave another server takes its mark. After its tests a server sends the token on in the second
+  -- wave, or tells server 0 which test fails. The check ends without a verdict, where the token is, or as server 0 is told.
   Starts : Act
   Marks : Server → Token → Act
   Passes : Server → Token → Act

@@ -51,8 +51,8 @@ weight_at me f u = pinned_weight f u.unit (pin_at me u.place)
 abbrev pub weight_in : UnitWeight → Placed → ℕ
 weight_in f p = f p.unit (is_none p.pin)
 
--- the bag's units that are free or pinned at the server are the queue's, with the same pins, facts and bodies, and by every weight:
--- charge, counts and fits are some of them
+-- The bag's units that are free or pinned at the server are the queue's, with the same pins, facts and bodies. So they agree by every
+-- weight; charge, counts and fits are some of them.
 pub record HoldsUnits (all : List Lodged) (me : Server) (units : List Placed) : Type 0 where
   pub each : (id : UnitId) → unit_with id units ≡ option_and_then (slot_of me) (find (of_id id) all)
   pub distinct : HasDistinctIds units

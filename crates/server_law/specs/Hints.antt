@@ -11,8 +11,8 @@ use Rattle.server_law.specs.Plan.{Plan, plan}
 use Rattle.server_law.specs.State.{ServerModel, is_home}
 use Rattle.server_law.specs.Waits.{asks_on}
 
--- A unit that is free, and goes to no rank that waits here, takes off the wishes of ranks to which it is permitted: that of the rank
--- which its target names before others first, then each in its order. The rank's home is told.
+-- A unit that is free, and goes to no rank that waits here, takes off the wishes of ranks to which it is permitted. First comes that of the
+-- rank which its target names before others, then each in its order. The rank's home is told.
 
 abbrev pub hints_if : (Wish → Bool) → List Wish → List Act
 hints_if test [] = []

@@ -99,8 +99,8 @@ Needs found (Arrives from unit) b me = (unit_of b unit.id ≡ Some (record { uni
 Needs found (Withdraws from id) b me = IsHeldAt b from id × PromisesAreSingle b.promises
 Needs found a b me = Unit {0}
 
--- the law: from a bag that agrees with the server and in which no common part is due, the entries of an act that is sure are steps of
--- the bag, where it has what the act needs. The bag agrees with the server afterwards, and no part is due
+-- The law. Let a bag agree with the server, with no common part due, and have what the act needs. Then the entries of an act that is sure
+-- are steps of the bag. The bag agrees with the server afterwards, and no part is due.
 abbrev pub ActsAreLegal : Type 0
 ActsAreLegal =
     (found : Bag → Bool) (b : Bag) (s : ServerModel) (a : Act) → ServerAgrees b s → has_due b ≡ false → SitsIn a s → Sure a s

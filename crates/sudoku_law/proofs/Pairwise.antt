@@ -1,5 +1,5 @@
--- The literal rule (each digit once in every row, column and box) and the rule by pairs (no two cells that share have
--- one digit) say the same: as many cells as digits, and no two equal, so each digit stands once.
+-- The literal rule is that each digit is once in every row, column and box. The rule by pairs is that no two cells that share have one
+-- digit. They say the same: as many cells as digits, and no two equal, so each digit is there once.
 use Rattle.std.proofs.Common.{◌≡◌, ◌≢◌, ◌<◌, ◌≤◌, ℕ, zero, suc, ◌+◌, ◌*◌, ◌/◌, ◌%◌, Bool, true, false, ◌&&◌, eqb, length, get_or, refl, sym}
 use Rattle.std.proofs.Common.{ap, ◌∙◌, inl, inr, arith}
 use Rattle.std.proofs.lemmas.Bool.{and_from, and_parts, or_cases, or_left, or_right, eqb-true, eq-eqb, ne_eqb}

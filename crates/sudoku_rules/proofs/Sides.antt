@@ -82,7 +82,7 @@ all_digits m low high = each_side (λ m. 65535 / 2 ^ (16 - side m) ≡ 2 ^ side 
 
 -- The side is told by how many cells there are.
 
--- what holds of each side holds of the side of so many cells
+-- what holds of each side holds of the side for n cells
 pub each_box : (P : ℕ → Type 0) → P 2 → P 3 → P 4 → (n : ℕ) → P (box_for n)
 unfolding box_for
 each_box P two three four n = elim (cases_eq n 16) [
@@ -113,7 +113,7 @@ box_is m low high g is = ap box_for is.long ∙ box_of_size m low high
 pub grid_sudoku : (m : ℕ) → 2 ≤ m → m ≤ 4 → (g : Cells) → IsGrid m g → IsSudoku g
 grid_sudoku m low high g is = subst (λ k. IsGrid k g) (sym (box_is m low high g is)) is
 
--- so many cells are those of a grid
+-- a size of a grid is the size for its side
 pub size_is : (n : ℕ) → IsSize n → n ≡ size (box_for n)
 unfolding box_for
 size_is n (inl small) = subst (λ k. k ≡ size (box_for k)) (sym small) refl
@@ -152,7 +152,7 @@ sudoku_wide g is not_small not_middle = elim (sudoku_size g is) [
 pub as_grid : (m : ℕ) → 2 ≤ m → m ≤ 4 → (g : Cells) → IsSudoku g → length g ≡ size m → IsGrid m g
 as_grid m low high g is long = subst (λ k. IsGrid k g) (ap box_for long ∙ box_of_size m low high) is
 
--- the side of so many cells
+-- the side for the size of a side's grid
 pub side_told : (m : ℕ) → 2 ≤ m → m ≤ 4 → (n : ℕ) → n ≡ size m → side m ≡ side_for n
 side_told m low high n is = ap (λ k. side k) (sym (ap box_for is ∙ box_of_size m low high))
 

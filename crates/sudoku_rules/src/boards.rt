@@ -146,7 +146,7 @@ impl<const SIDE: usize, const CELLS: usize> Board<SIDE, CELLS> {
         }
     }
 
-    // The same at any level.
+    // The blank cells with the fewest candidates, by all levels.
     fn with_fewest_of_many(&self) -> u128
         requires { 0 < self.now.blank }
         ensures { AreFewest self.now.options self.now.blank result }

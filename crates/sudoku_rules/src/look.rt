@@ -1,4 +1,4 @@
-//! The digits of a grid's rows, columns and boxes as masks, and what follows from them: whether two clash, the
+//! The digits of a grid's rows, columns and boxes as masks. From them follow whether two cells clash, the
 //! candidates of a cell, and the better of two cells to try next.
 //!
 //! `M` is the side of a box, `SIDE` that of the grid and `CELLS` how many cells it has (`IsSized`).

@@ -9,7 +9,7 @@ use Rattle.tour_app.specs.Works.{tours}
 use Rattle.tour_app.specs.declared.program.TourProgram.{TourProgram}
 use Rattle.tour_app.specs.declared.units.TourUnit.{TourUnit}
 
--- a call behind others
+-- a call after others
 pub goes_snoc : (b : Books TourUnit) (said : List Said) (mid next : Books TourUnit) (s : Said) → Goes tours b said mid
     → Moves tours mid s next →
     Goes tours b (said ++ s ∷ []) next

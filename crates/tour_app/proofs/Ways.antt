@@ -79,7 +79,7 @@ end_way p said new d common rest all begun bare is same pends =
     (passes_so p (new ++ s ∷ []) d rest None all
     (passes_closed p said (new ++ s ∷ []) d common rest all bare is (plus_same said new s same))) pends
 
--- a reservation failed, or the fetch behind it
+-- a reservation failed, or the fetch after it
 pub take_way : (p : TourProgram) (said new : List Said) (d : Desk) (begun : Option Call) → HasPut p said d [] None →
     Fails said new begun → IsUnderWay p new begun
 take_way p said new d begun put (inl fails) =

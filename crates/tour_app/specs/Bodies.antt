@@ -14,7 +14,7 @@ words numbers = flat_map (to_be_bytes w32) numbers
 unfoldable pub common_part : StartModel → List ℕ
 common_part s = s.cities.count ∷ (words s.cities.rows ++ s.first)
 
--- the first numbers of bytes, and what stands behind them
+-- the first numbers of bytes, and what comes after them
 unfoldable pub words_in : ℕ → List ℕ → List ℕ
 words_in zero bytes = []
 words_in (suc n) bytes = from_be_bytes w32 (take 4 bytes) ∷ words_in n (drop 4 bytes)

@@ -93,7 +93,7 @@ impl Start {
     }
 }
 
-/// The list is a tour of so many cities.
+/// The list is a tour of `count` cities.
 pub(crate) fn is_tour(count: u8, tour: &[u8]) -> bool
     ensures { result ≡ is_whole_tour count tour.now }
 {

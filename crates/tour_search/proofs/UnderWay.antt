@@ -39,7 +39,7 @@ last_is p len last long e is =
     let below : len - 1 < length p = omega arith in
     is ∙ get_or_default p (len - 1) last 0 below ∙ ap (λ k. get_or p (k - 1) 0) e
 
--- what is told of the bound, by the last city
+-- what is said of the bound, by the last city
 pub bound_told : (n : ℕ) (c : Costs) (ways p seen : List ℕ) (spent left told : ℕ) → length ways ≡ n → seen ≡ p → IsBeginning n p →
     spent ≡ path_cost c p → left + sum_by (out_of ways) p ≡ sum_below n (out_of ways) →
     ((k : Costs) (a : ℕ) (q : List ℕ) → seen ≡ 0 ∷ a ∷ q → spent ≡ path_cost k seen →

@@ -16,7 +16,7 @@ without_end [] = []
 without_end ([] ∷ []) = []
 without_end (piece ∷ pieces) = piece ∷ without_end pieces
 
--- the lines, each without the one carriage return at its end, if it has one: a line feed ends a line, and what follows the last line
--- feed is a line too, unless nothing does
+-- The lines, each without the one carriage return at its end, if it has one. A line feed ends a line; what follows the last line feed is a
+-- line too, unless nothing does.
 abbrev pub lines : List ℕ → List (List ℕ)
 lines bytes = map strip_carriage_return (without_end (slice_split (λ byte. byte == 10) bytes))

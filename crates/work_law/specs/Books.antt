@@ -18,8 +18,8 @@ pub data Task (Made : Type 0) : Type 0 where
 abbrev pub put_all : {Made : Type 0} → List Made → List (Task Made)
 put_all units = map Put units
 
--- what the rank is still to do, in order; the common bytes of the batch that is going on; the unit that was granted and is to be
--- fetched; the units that came to the rank, in order; and whether an end was told
+-- What the rank is still to do, in order. The common bytes of the batch that is going on, and the unit that was granted and is to be
+-- fetched. The units that came to the rank, in order, and whether an end was told.
 pub record Books (Made : Type 0) : Type 0 where
   pub tasks : List (Task Made)
   pub on : Option (List ℕ)

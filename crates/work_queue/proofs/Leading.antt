@@ -22,8 +22,8 @@ last_place : (xs : List Placed) (y : Placed) → slice_get (xs ++ y ∷ []) (len
 last_place [] y = refl
 last_place (x ∷ xs) y = last_place xs y
 
--- the order: a later unit that does not beat an earlier one comes after it, and one that does comes before it and before all that
--- the earlier one came before
+-- The order. A later unit that does not beat an earlier one comes after it. One that does comes before it and before all that the earlier
+-- one came before.
 pub record IsOrder {R : Type 0} (rate : Placed → R) (beats : R → R → Bool) (Before : ℕ → Placed → ℕ → Placed → Type 0) : Type 0 where
   pub stays : (i j : ℕ) (u y : Placed) → i < j → beats (rate y) (rate u) ≡ false → Before i u j y
   pub passes : (i j : ℕ) (u y : Placed) → i < j → beats (rate y) (rate u) ≡ true → Before j y i u

@@ -97,8 +97,8 @@ pub record IsAnswered (said : List Said) (call : Call) (answer : Answer) (w : Se
   pub ended : is_ended (server_in w) ≡ is_finish call
   pub ready : is_finish call ≡ false → IsReady w
 
--- The call failed: what the rank has heard is as before, the ledger has of the call what was entered, and a stamp that was too long
--- is past the last one.
+-- The call failed: what the rank has heard is as before, and the ledger has of the call what was entered. A stamp that was too long is past
+-- the last one.
 pub record IsFailed (said : List Said) (call : Call) (trouble : Trouble) (w : Seen) : Type 0 where
   pub kept : take (length said) (rank_in w).transcript ≡ said
   pub within : length said ≤ length (rank_in w).transcript

@@ -13,8 +13,8 @@ use Rattle.ledger_file.specs.inside.Reading.{onward, next, value, whole, with_ca
 use Rattle.ledger_file.specs.inside.Reading.{unit_of, batch_of, length_in, number_in, pair_in, prio_in, target_in, answer_in, top_in}
 use Rattle.ledger_file.specs.inside.Reading.{types_in, bytes_in, end_in}
 
--- the entries of names with fields of the same kinds: a call; a call and the wanted types; a server and an id; a server, whom it gives
--- to, and an id
+-- The entries of names with fields of the same kinds. They are a call; a call and the wanted types; a server and an id; a server, whom it
+-- gives to, and an id.
 abbrev pub call_entry : Name → Rank → ℕ → Entry
 call_entry name.Rejected rank call = of.Rejected rank call
 call_entry name.Closing rank call = of.Closing rank call

@@ -7,7 +7,7 @@ use Rattle.sudoku_rules.specs.declared.marked.Marked.{Marked}
 use Rattle.sudoku_rules.specs.declared.marked.Marks.{Marks}
 use Rattle.sudoku_rules.specs.inside.Masks.{AreMasks}
 
--- bit k of a row's mask is set exactly where its cell in column k is blank, for the first n columns
+-- bit k of a row's mask is set exactly if its cell in column k is blank, for the first n columns
 pub record IsBlankRow (m : ℕ) (g : Cells) (row n mask : ℕ) : Type 0 where
   pub small : mask < 2 ^ n
   pub bits : (k : ℕ) → k < n → bit_at mask k ≡ (if slice_index g (row * side m + k) == 0 then 1 else 0)
