@@ -98,7 +98,7 @@ impl Types {
         Some(&self.kinds[..self.count])
     }
 
-    /// The type is wanted: any is, or it stands in the list (`HasKind`, and as a test `has_kind`).
+    /// The type is wanted: any is, or it is in the list (`HasKind`, and as a test `has_kind`).
     pub fn has(&self, kind: WorkType) -> bool
         ensures wanted { IsTrue result ↔ HasKind self.now kind }
         ensures test { result ≡ has_kind self.now kind }

@@ -174,7 +174,7 @@ with_rank rank f b = record b { ranks = change_at f rank.0 b.ranks }
 abbrev pub with_part : BatchId → (Part → Part) → Bag → Bag
 with_part batch f b = record b { parts = change_first f (λ p. same_batch p.batch batch) b.parts }
 
--- the unit stands at another place
+-- the unit is at another place
 abbrev pub moved : UnitId → UnitPlace → Bag → Bag
 moved id place b = record b { units = change_first (λ u. record u { place = place }) (λ u. same_unit u.unit.id id) b.units }
 

@@ -1,4 +1,4 @@
--- Where the first element that passes stands after a push and a change.
+-- Where the first element that passes is after a push and a change.
 use Rattle.std.proofs.Common.{◌≡◌, ◌∙◌, sym, ℕ, zero, suc, ◌+◌, Bool, true, false, List, [], ◌∷◌, ◌++◌, length, Option, Some, None, refl}
 use Rattle.std.proofs.Common.{ap, arith}
 use Rattle.std.specs.Prelude.{position, option_map, if◌then◌else◌}

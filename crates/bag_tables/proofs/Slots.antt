@@ -71,7 +71,7 @@ none_counted test (p ∷ ps) none = by_test (none_counted test ps) (test p) refl
     by_test rest false is = let later : find test ps ≡ None = rw is at none in
         omega (arith, rest later, count_first test p ps, counts_not (test p) is)
 
--- the promise of the unit stands in this slot, and what it is to empty it
+-- the promise of the unit is in this slot, and what it is to empty it
 pub record IsSlot (id : UnitId) (slots : List (Option Promise)) (at : ℕ) : Type 0 where
   pub inside : at < length slots
   pub here : (d : Option Promise) → slice_index_or slots at d ≡ find (of_unit id) (standing slots)

@@ -17,11 +17,11 @@ use Rattle.bag_tables.specs.Counted.{HasNoTop, IsTop, prio_count}
 tied : (n : ℕ) → nat_cmp n n ≡ Equal
 tied n = tied_itself nat_cmp_total n
 
--- each priority stands after none
+-- each priority comes after none
 after_none : (s k : ℕ) (prio : ℤ) → IsLtBy by_prio (s, k, None) (s, k, Some (record { 0 = prio }))
 after_none s k prio = rw (tied s, tied k) refl
 
--- what stands after the one and not after the other has the parts that are the same in both
+-- what comes after the one and not after the other has the parts that are the same in both
 same_parts : (s k a o : ℕ) (x y : Ordering) → ordering_then (ordering_then (nat_cmp s a) (nat_cmp k o)) x ≡ Less
     → is_gt (ordering_then (ordering_then (nat_cmp a s) (nat_cmp o k)) y) ≡ false → (a ≡ s) × (o ≡ k)
 same_parts s k a o x y after upto = (grind (arith, nat_tests), grind (arith, nat_tests))

@@ -5,7 +5,7 @@ use Rattle.clap.specs.declared.builder.ArgAction.TheVariants.{Set, SetTrue}
 use Rattle.clap.specs.declared.builder.ValueParser.TheVariants.{Bool, Unsigned}
 use Rattle.command_words.specs.Ranges.{budgets, counts, grains, limits, rank_counts, seeds, server_counts}
 
--- a number from `low` to `high` that stands alone, and has to be given
+-- a number from `low` to `high` by itself, which has to be given
 abbrev pub number_rule : Text → ℕ → ℕ → Rule
 number_rule name low high = record (new_rule name) {
   action = Some Set;

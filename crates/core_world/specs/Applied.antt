@@ -1,4 +1,4 @@
--- What applying an event does, why it is refused, and what stands then.
+-- What applying an event does, why it is refused, and what is left then.
 use Rattle.std.specs.Prelude.{◌≡◌, ◌⊎◌, ◌<◌, ◌≤◌, ℕ, true, false, List, [], ◌∷◌, ◌++◌, Option, None, Some, IsSome, take, option_and_then}
 use Rattle.std.specs.List.{slice_get}
 use Rattle.adlb_unit.specs.Limits.{stamp_limit}
@@ -68,7 +68,7 @@ pub record Applies (old : Seen) (event : Event) (new : Seen) : Type 0 where
   pub happened : happens old.world event ≡ Some new.world
   pub goes_on : new.trouble ≡ None
 
--- What stands after an event that failed.
+-- What is left after an event that failed.
 
 -- the ledger and the transcripts are as they were
 pub record IsKept (old new : World) : Type 0 where
@@ -96,7 +96,7 @@ pub record IsHalf (old : World) (entries : List Entry) (new : World) : Type 0 wh
   pub servers : new.servers ≡ old.servers
   pub ledger : IsBetween old.ledger new.ledger (old.ledger ++ entries)
 
--- what stands, by the trouble by which an enabled event failed
+-- what is left, by the trouble by which an enabled event failed
 abbrev pub Leaves : World → Event → Trouble → World → Type 0
 Leaves old event troubles.Memory new = (after : World) → happens old event ≡ Some after → IsCut old new after
 Leaves old event (troubles.TooLong stamp) new = IsKept old new

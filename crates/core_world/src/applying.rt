@@ -23,7 +23,7 @@ impl World {
     /// has ended (`HasNone`). Every other front letter is expected, since a run leads to the world. It answers
     /// `TooLong` exactly when the event is enabled and its stamp would reach `2^48`, which is so only after `2^34`
     /// calls; the only other error is `Memory`. After one of these two the world has failed, and answers the same to
-    /// every event; what stands then is said by `Stops`.
+    /// every event; what is left is said by `Stops`.
     pub fn apply(&mut self, event: Event) -> Result<Option<Answer>, ApplyFault>
         ensures told { IfOk result (λ answer. answer ≡ event_answer self.old.world event) }
         ensures applied { OnOk result (Applies self.old event self.new) }
@@ -57,7 +57,7 @@ impl World {
     /// Carries out an event that is enabled, in a world that has not failed, and tells the answer of the call that it answers, if
     /// there is one (`event_answer`). It is for callers that know that there is such an event: unlike `apply` it does not look. It
     /// answers `TooLong` exactly when the event's stamp would reach `2^48`; its only other error is `Memory`. Then the world
-    /// has failed, and what stands is said by `Stops`.
+    /// has failed, and what is left is said by `Stops`.
     pub fn carry_out(&mut self, event: Event) -> Result<Option<Answer>, Trouble>
         requires whole { self.old.trouble ≡ None }
         requires enabled { IsEnabled self.old.world event }

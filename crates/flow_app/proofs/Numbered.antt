@@ -13,7 +13,7 @@ use Rattle.flow_law.specs.declared.Definition.TheVariants.{Let}
 use Rattle.flow_law.proofs.Turns.{counts_step, distinct_rest, named, there_counts}
 use Rattle.flow_app.specs.Linked.{number_of}
 
--- what stands at a place is in the list, and what is in the list has a place
+-- what is at a place is in the list, and what is in the list has a place
 pub there_at : {X : Type 0} (xs : List X) (i : ℕ) (x : X) → slice_get xs i ≡ Some x → Contains xs x
 there_at xs i x e = (i, slice_get_within xs i x e, get_or_from_slice_get xs i x x e)
 

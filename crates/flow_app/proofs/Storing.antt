@@ -232,7 +232,7 @@ drop_push zero ready rule le = refl
 drop_push (suc next) [] rule le = absurd (omega (arith, le))
 drop_push (suc next) (x ∷ ready) rule le = drop_push next ready rule (omega (arith, le))
 
--- what stands in a list that grew by one, and what stands before it
+-- what is in a list that grew by one, and what comes before it
 pushed_at : (xs : List ℕ) (x k i : ℕ) → slice_get (xs ++ x ∷ []) k ≡ Some i →
     ((slice_get xs k ≡ Some i) × (take k (xs ++ x ∷ []) ≡ take k xs)) ⊎ ((x ≡ i) × (take k (xs ++ x ∷ []) ≡ xs))
 pushed_at [] x zero i at = let same : x ≡ i = cc in inr (same, refl)

@@ -12,7 +12,7 @@ use Rattle.flow_law.specs.declared.Op.TheVariants.{Add, Mul, Min, Max, Xor}
 use Rattle.flow_app.specs.declared.faults.FlowWhy.{FlowWhy}
 use Rattle.flow_app.specs.declared.faults.FlowWhy.TheVariants.{Long, Form}
 
--- a line is skipped, it is a definition, or it is refused wherever it stands
+-- a line is skipped, it is a definition, or it is refused wherever it is
 pub data Kind : Type 0 where
   skipped : Kind
   defines : Definition → Kind

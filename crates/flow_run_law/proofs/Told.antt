@@ -50,7 +50,7 @@ calls_more : (b : Bag) (front : List Entry) (e : Entry) (rank : Rank) →
 calls_more b front e rank =
     calls_split b front (e ∷ []) rank ∙ ap (λ l. calls_from b front rank ++ l) (append-nil (said_by rank (says (bag_after b front) e)))
 
--- the front of a list that ends in one more is a front of what stands before, or all
+-- the front of a list that ends in one more is a front of what comes before, or all
 pub record IsWithin {X : Type 0} (xs said : List X) (y : X) : Type 0 where
   pub more : List X
   pub is : said ≡ xs ++ more

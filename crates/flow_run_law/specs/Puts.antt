@@ -35,7 +35,7 @@ unfoldable pub rules_in : Forms → List Said → List ℕ
 rules_in F [] = []
 rules_in F (s ∷ said) = rules_of F s.call ++ rules_in F said
 
--- each number stands there once at most
+-- each number is there once at most
 abbrev pub IsOnce : List ℕ → Type 0
 IsOnce xs = (i : ℕ) → count_by (λ x. x == i) xs ≤ 1
 

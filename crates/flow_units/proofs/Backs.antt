@@ -21,7 +21,7 @@ op_back Min = refl
 op_back Max = refl
 op_back Xor = refl
 
--- what stands in the body of a rule, by its places
+-- what is in the body of a rule, by its places
 rule_parts : (i : ℕ) (op : Op) (a b : ℕ) → rule_in (rule_body i op a b)
     ≡ rule_with (from_be_bytes w32 (to_be_bytes w32 i)) (op_in (op_byte op)) (from_be_bytes w64 (to_be_bytes w64 a))
     (from_be_bytes w64 (to_be_bytes w64 b))

@@ -35,7 +35,7 @@ rule_body i op a b = to_be_bytes w32 i ++ op_byte op ∷ [] ++ to_be_bytes w64 a
 abbrev pub answer_body : ℕ → ℕ → List ℕ
 answer_body i v = to_be_bytes w32 i ++ to_be_bytes w64 v
 
--- what stands in a body
+-- what is in a body
 abbrev pub rule_with : ℕ → Option Op → ℕ → ℕ → Option FlowUnit
 rule_with i (Some op) a b = Some (Rule i op a b)
 rule_with i None a b = None

@@ -11,7 +11,7 @@ is_space byte = byte == 32
 abbrev pub is_blank : ℕ → Bool
 is_blank byte = (byte == 32) || (byte == 9)
 
--- what stands before the first space, and what follows it
+-- what comes before the first space, and what follows it
 abbrev pub first_word : List ℕ → List ℕ
 first_word text = before_first is_space text
 

@@ -16,7 +16,7 @@ use Rattle.job_units.proofs.Numbers.{AreBytes, bytes_drop, four_fit, four_first}
 abbrev any_job : Job → Bool
 any_job j = true
 
--- an item stands in its bytes, which are three
+-- an item is in its bytes, which are three
 pub item_back : (i : Item) → item_in (item_bytes i) ≡ i
 item_back (Count lo hi) = refl
 item_back Sum = refl
@@ -27,7 +27,7 @@ item_long (Count lo hi) = refl
 item_long Sum = refl
 item_long Max = refl
 
--- a body by its pieces, and what stands at their places
+-- a body by its pieces, and what is at their places
 pub job_is : (j : Job) → job_body j ≡ to_be_bytes w32 j.batch ++ (to_be_bytes w32 j.number ++ item_bytes j.item)
 unfolding job_body
 job_is j = refl
@@ -74,7 +74,7 @@ job_whole body j front middle back =
     ∙ ap (λ x. to_be_bytes w32 j.number ++ x) back)
     ∙ sym (job_is j)
 
--- a job stands in its body
+-- a job is in its body
 job_back : (j : Job) → IsJob j → job_in (job_body j) ≡ j
 job_back j fits = same_job (job_in (job_body j)) j
     (ap (λ x. from_be_bytes w32 x) (job_front j) ∙ from_be_bytes-to_be_bytes_4 j.batch fits.batch)

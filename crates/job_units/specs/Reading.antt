@@ -17,7 +17,7 @@ use Rattle.job_units.specs.declared.units.Made.{Made}
 use Rattle.job_units.specs.declared.units.Made.TheVariants as made
 use Rattle.job_units.specs.Bodies.{board_body, solution_body, job_body, answer_body}
 
--- What stands at the places of a body.
+-- What is at the places of a body.
 
 abbrev pub board_in : List ℕ → Board
 board_in body = record {
@@ -51,7 +51,7 @@ answer_in body = record {
 
 -- The unit of a body.
 
--- what stands in a body, if it fits and this is the very body that is written of it
+-- what is in a body, if it fits and this is the very body that is written of it
 abbrev pub if_its_body : (X : Type 0) → (X → Bool) → (X → List ℕ) → List ℕ → X → Option X
 if_its_body X fits write body x = if fits x && bytes_eq body (write x) then Some x else None
 

@@ -4,7 +4,7 @@
 ghost use Rattle.std.specs.Prelude.{◌≡◌, ◌∷◌, [], MatchOption, true};
 ghost use Rattle.ledger_file.specs.inside.Reading.{IsCut, free, parts_left, parts_of};
 
-/// What stands before the first of these bytes and after it, if there is one (`IsCut`).
+/// What comes before the first of these bytes and after it, if there is one (`IsCut`).
 pub fn cut(bytes: &[u8], at: u8) -> Option<(&[u8], &[u8])>
     ensures { MatchOption result (free at bytes.now ≡ true) (λ sides. IsCut at bytes.now sides.0.now sides.1.now) }
 {

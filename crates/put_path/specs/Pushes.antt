@@ -113,7 +113,7 @@ is_pressed config q = nat_lt (config.limit - config.limit / 8) (charge_of q)
 abbrev pub next_to : Config → Server → ℕ → Server
 next_to config me pushes = behind config me (pushes % (config.servers - 1) + 1)
 
--- one more was begun; the count is a number of 64 bits, and stands still at the last of them
+-- one more was begun; the count is a number of 64 bits, and stays at the last of them
 abbrev pub one_more : ℕ → ℕ
 one_more pushes = min (pushes + 1) (2 ^ 64 - 1)
 

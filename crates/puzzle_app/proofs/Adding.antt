@@ -236,7 +236,7 @@ put_units : (units : List Made) (tasks : List Task) → all_units (put_all units
 put_units [] tasks = refl
 put_units (x ∷ units) tasks = ap (λ us. x ∷ us) (put_units units tasks)
 
--- what comes with a call, and the units that it puts. What is made then stands among the units that are put or to be put, or no server
+-- what comes with a call, and the units that it puts. What is made then is among the units that are put or to be put, or no server
 -- takes its batch
 pub record Adds (grain : ℕ) (b : Books) (s : Said) (next : Books) : Type 0 where
   pub extra : List Arrival

@@ -11,7 +11,7 @@ use Rattle.job_units.proofs.Same.{same_unit, unit_test}
 abbrev one_if : (Made → Bool) → Made → ℕ
 one_if p x = cond (p x) 1 0
 
--- what is counted stands in the list
+-- what is counted is in the list
 counted_there : (x : Made) (ys : List Made) → 1 ≤ count_by (same_unit x) ys → Contains ys x
 counted_there x [] some = absurd (omega arith)
 counted_there x (y ∷ ys) some = elim (cases_Bool (same_unit x y)) [

@@ -114,7 +114,7 @@ free_agrees s b nothing going rank servers caused held accepted = record {
   accepted = rw (going, nothing) accepted;
 }
 
--- the note that is found is that of the unit, and stands among the notes
+-- the note that is found is that of the unit, and is among the notes
 pub found_is : (P : UnitNote → Type 0) (id : UnitId) (notes : List UnitNote) (note : UnitNote)
     → find (λ n. same_unit n.id id) notes ≡ Some note → All P notes → (note.id ≡ id) × P note
 found_is P id [] note e all = absurd (cc)

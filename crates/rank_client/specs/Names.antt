@@ -1,4 +1,4 @@
--- The ids that stand beside a transcript.
+-- The ids that are beside a transcript.
 use Rattle.std.specs.Prelude.{◌≡◌, ℕ, Bool, ◌&&◌, ◌||◌, nat_eq}
 use Rattle.std.specs.HashSet.{HashSet, contains, spare}
 use Rattle.adlb_unit.specs.declared.names.UnitId.{UnitId}

@@ -305,7 +305,7 @@ hear_fetch s request note from (tells.Bytes to body) =
     if is_for request note.server from to && (length body == note.length) then Some (own_came s request note body note.common) else None
 hear_fetch s request note from _ = None
 
--- and as many common bytes, which stand before the unit's own
+-- and as many common bytes, which come before the unit's own
 abbrev pub hear_common : ClientModel → ℕ → UnitNote → CommonRef → List ℕ → Server → Message → Option ClientResponse
 hear_common s request note common own from (tells.Bytes to body) =
     if is_for request common.server from to && (length body == common.length)

@@ -240,7 +240,7 @@ impl ClientCore {
         ensures begun { IfOk result (λ x. begin self.old call ≡ Some (gives self.new x)) }
         ensures stamp { IfOk result (λ x. x.stamp ≡ self.new.clock) }
 
-        // When it fails, and what stands then.
+        // When it fails, and what is left then.
         ensures whole { OnOk result (call_trouble self.old ≡ None) }
         ensures troubled { (t : Trouble) → call_trouble self.old ≡ Some t → result ≡ Err t }
         ensures memory { call_trouble self.old ≡ None → IfErr result (λ t. (t ≡ Trouble.Memory) × (is_finish call ≡ false)) }

@@ -44,7 +44,7 @@ there [] k h = absurd (omega arith)
 there (x ∷ xs) zero h = (x, refl)
 there (x ∷ xs) (suc k) h = there xs k (omega arith)
 
--- the element read at a place stands there
+-- the element read at a place is there
 pub get_there : {T : Type 0} (ts : List T) (k : ℕ) (t : T) → t ≡ get_or ts k t → k < length ts → slice_get ts k ≡ Some t
 get_there [] k t e h = absurd (omega (arith, h))
 get_there (x ∷ xs) zero t e h = ap Some (sym e)

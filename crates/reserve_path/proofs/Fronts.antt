@@ -1,4 +1,4 @@
--- Entries of ranks, of which those that wait stand in front.
+-- Entries of ranks, of which those that wait come first.
 use Rattle.std.proofs.Common.{◌≡◌, ◌≢◌, ◌<◌, ◌≤◌, ◌+◌, ℕ, zero, suc, Bool, true, false, cond, not, List, [], ◌∷◌, ◌++◌, length, map, filter}
 use Rattle.std.proofs.Common.{take, drop, set, get_or, Option, None, Some, All, is_some, refl, sym, ap, ◌∙◌, subst, arith, ◌⊎◌, inl, inr}
 use Rattle.std.proofs.Common.{add-one, append_assoc, length-append}
@@ -118,7 +118,7 @@ none_out test xs all = sym (all_pass (λ x. not (test x)) xs (λ k d within. ap 
 abbrev pub Entries : Type 0
 Entries = List (ℕ × Waiting)
 
--- an entry stands under its rank
+-- an entry is under its rank
 abbrev pub IsKeyed : ℕ × Waiting → Type 0
 IsKeyed e = e.0 ≡ e.1.wish.rank.0
 

@@ -61,7 +61,7 @@ pub read_one : (m : ParkedModel) (rank : Rank) (n : ℕ) (e : Waiting) → posit
 read_one m rank n e there found =
     some_same (get_or m.parked.waiting n e) e (sym (found_at (is_of rank) m.parked.waiting n e there) ∙ found)
 
--- What is asked stands first among those to be asked; the rank is idle if none is left.
+-- What is asked comes first among those to be asked; the rank is idle if none is left.
 
 -- a step that asks a server asks the first
 pub asks_first : (o : Option Server) (s : Server) → step_of o ≡ comes_to.Ask s → o ≡ Some s

@@ -76,7 +76,7 @@ module _ (test : Waiting → Bool) (rank : Rank) (tells : Tells test rank) (xs :
         here = here;
       }
 
--- what stands at the first place is what is found first
+-- what is at the first place is what is found first
 pub found_at : (test : Waiting → Bool) (xs : List Waiting) (n : ℕ) (d : Waiting) → position test xs ≡ Some n
     → find test xs ≡ Some (get_or xs n d)
 found_at test xs n d is =

@@ -37,7 +37,7 @@ abbrev pub step_for : Server → Option Placed → List Server → ReserveStep
 step_for me (Some p) servers = Granted (note_of me p.unit)
 step_for me None servers = step_of (slice_get servers 0)
 
--- the server stands in the list
+-- the server is in the list
 abbrev pub has_server : List Server → Server → Bool
 has_server servers s = list_any (λ (t : Server). t.0 == s.0) servers
 

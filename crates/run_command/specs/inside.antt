@@ -23,7 +23,7 @@ use Rattle.run_command.specs.Ends.{HasAsked, IsRefusedAt, input_limit}
 use Rattle.run_command.specs.declared.faults.Fault.{Fault}
 use Rattle.run_command.specs.declared.faults.Fault.TheVariants.{Input, Read, Write, NoThread, Memory, TooLong, TooLarge}
 
--- a thread for each rank and for each server was started, or the count stands at its last value
+-- a thread for each rank and for each server was started, or the count is at its last value
 abbrev pub HasStarted : Config → ℕ → ℕ → Type 0
 HasStarted config before now = RisesBy (config.ranks + config.servers) before now
 

@@ -46,7 +46,7 @@ behind_once config me j k there first second same = by_both (behind_is config me
     by_both (inr a) (inl b) = omega (arith, a.0, a.1, b.0, b.1, same, first, second, there)
     by_both (inr a) (inr b) = omega (arith, a.0, b.0, a.1, b.1, same)
 
--- another server stands at some place
+-- another server is at some place
 place_behind : (config : Config) (me from : Server) → me.0 < config.servers → IsOther config me from
     → (k : ℕ) × (1 ≤ k) × (k < config.servers) × ((behind config me k).0 ≡ from.0)
 place_behind config me from there other = by_order (cases_lt me.0 from.0)

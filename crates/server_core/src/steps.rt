@@ -39,7 +39,7 @@ impl ServerState {
         ensures too_long { (n : ℕ) → (result ≡ Err (Trouble.TooLong n)) ↔
             ((stamp_limit ≤ next_stamp self.old letter) × (n ≡ next_stamp self.old letter)) }
 
-        // What stands after a failure.
+        // What is left after a failure.
         ensures broken { IfErr result (λ trouble. self.new.trouble ≡ Some trouble) }
         ensures heard { IfErr result (λ trouble. self.new.kept.finished ≡
             heard_finish self.old.kept.finished from letter.message) }

@@ -1,5 +1,5 @@
 -- Sudoku's plain rules, for boxes of side m: a grid has m * m rows, columns and boxes of m * m cells each.
--- A grid is the list of its cells by rows, each the digit that stands there or 0 for blank.
+-- A grid is the list of its cells by rows, each the digit that is there or 0 for blank.
 use Rattle.std.specs.Prelude.{◌≡◌, ◌≢◌, ◌<◌, ◌≤◌, ℕ, ◌+◌, ◌*◌, zero, suc, ◌/◌, ◌%◌, ◌==◌, nat_lt, Bool, false, ◌&&◌, ◌||◌, not, List, []}
 use Rattle.std.specs.Prelude.{◌∷◌, length, slice_index, Option, Some, None, IsTrue, if◌then◌else◌, filter}
 
@@ -28,7 +28,7 @@ unfoldable pub how_many : ℕ → (ℕ → Bool) → ℕ
 how_many zero p = 0
 how_many (suc n) p = how_many n p + (if p n then 1 else 0)
 
--- each digit stands in exactly one cell of every group: group tells a cell's row, column or box
+-- each digit is in exactly one cell of every group: group tells a cell's row, column or box
 abbrev pub HasEachOnce : ℕ → (ℕ → ℕ) → Cells → Type 0
 HasEachOnce m group s =
     (u d : ℕ) → u < side m → 1 ≤ d → d ≤ side m → how_many (size m) (λ cell. (group cell == u) && (slice_index s cell == d)) ≡ 1
@@ -47,7 +47,7 @@ pub record IsSolution (m : ℕ) (g s : Cells) : Type 0 where
   pub columns : HasEachOnce m (column_of m) s
   pub boxes : HasEachOnce m (box_of m) s
 
--- two cells stand in one row, column or box
+-- two cells are in one row, column or box
 abbrev pub shares : ℕ → ℕ → ℕ → Bool
 shares m i j = (row_of m i == row_of m j) || (column_of m i == column_of m j) || (box_of m i == box_of m j)
 
@@ -68,7 +68,7 @@ clash m g i j = shares m i j && (slice_index g i == slice_index g j) && not (sli
 abbrev pub conflict : ℕ → Cells → Bool
 conflict m g = any_below (length g) (λ i. any_below i (λ j. clash m g i j))
 
--- the digit stands in the cell's row, column or box
+-- the digit is in the cell's row, column or box
 abbrev pub used : ℕ → Cells → ℕ → ℕ → Bool
 used m g cell d = any_below (length g) (λ j. shares m cell j && (slice_index g j == d))
 
@@ -77,7 +77,7 @@ unfoldable pub count_up : ℕ → ℕ → List ℕ
 count_up from zero = []
 count_up from (suc n) = from ∷ count_up (from + 1) n
 
--- the digits that can stand in a blank cell, rising
+-- the digits that can go into a blank cell, rising
 abbrev pub candidates : ℕ → Cells → ℕ → List ℕ
 candidates m g cell = filter (λ d. not (used m g cell d)) (count_up 1 (side m))
 

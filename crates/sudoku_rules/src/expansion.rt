@@ -84,7 +84,7 @@ fn work_cells<const M: usize, const SIDE: usize, const CELLS: usize>(
     }
 }
 
-// Works one node, and what stands below it, and leaves the grid as it was.
+// Works one node, and what is below it, and leaves the grid as it was.
 fn work<const M: usize, const SIDE: usize, const CELLS: usize>(
     budget: u64,
     marked: &mut Marked<SIDE, CELLS>,

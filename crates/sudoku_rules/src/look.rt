@@ -8,7 +8,7 @@ ghost use Rattle.sudoku_law.specs.Grid.{IsGrid, box_of, column_of, row_of, side,
 ghost use Rattle.sudoku_rules.specs.inside.Masks.{AreMasks, AreOptions, IsBest, IsSized};
 
 /// The digits of each row, column and box: bit `d - 1` of a mask is set where the digit `d` stands there.
-/// `clash` tells that a digit stands twice in one of them.
+/// `clash` tells that a digit is twice in one of them.
 #[derive(Clone, Copy)]
 pub struct Masks<const SIDE: usize> {
     pub rows: [u16; SIDE],
@@ -106,7 +106,7 @@ impl<const SIDE: usize> Masks<SIDE> {
         self.boxes[place] |= bit;
     }
 
-    /// The digits that stand neither in the row nor in the column nor in the box of the cell in this row and
+    /// The digits that are neither in the row nor in the column nor in the box of the cell in this row and
     /// column.
     #[inline]
     pub fn options_at<const M: usize>(&self, row: usize, column: usize) -> u16

@@ -32,7 +32,7 @@ is_home : (tour : List ℕ) → slice_get tour 0 ≡ Some 0 → begins_at_home t
 is_home [] e = absurd (cc)
 is_home (x ∷ rest) e = eq-eqb x 0 (let f : x ≡ 0 = cc in f)
 
--- how often a city stands there
+-- how often a city is there
 abbrev times : ℕ → List ℕ → ℕ
 times city tour = count_by (λ x. x == city) tour
 

@@ -22,7 +22,7 @@ abbrev pub begins_at_home : List ℕ → Bool
 begins_at_home [] = false
 begins_at_home (city ∷ rest) = city == 0
 
--- each of n cities stands there once
+-- each of n cities is there once
 unfoldable pub has_each : ℕ → List ℕ → Bool
 has_each zero tour = true
 has_each (suc n) tour = has_each n tour && (count_by (λ x. x == n) tour == 1)

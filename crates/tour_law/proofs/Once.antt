@@ -1,4 +1,4 @@
--- Lists in which each number stands once at most, and sums over tours.
+-- Lists in which each number is there once at most, and sums over tours.
 use Rattle.std.proofs.Common.{◌≡◌, ◌<◌, ◌≤◌, ◌+◌, ◌*◌, ◌==◌, ℕ, zero, suc, Bool, true, false, cond, List, [], ◌∷◌, ◌++◌, length, All}
 use Rattle.std.proofs.Common.{count_by, refl, sym, ap, ◌∙◌, arith, inl, inr, ◌⊎◌, zero-add}
 use Rattle.std.specs.Prelude.{sum_by}
@@ -10,7 +10,7 @@ use Rattle.tour_law.specs.Tours.{IsTour}
 use Rattle.tour_law.specs.Search.{sum_below}
 use Rattle.tour_law.specs.Beginnings.{IsOnce}
 
--- how often a city stands in a list
+-- how often a city is in a list
 abbrev pub times : ℕ → List ℕ → ℕ
 times city xs = count_by (λ x. x == city) xs
 
@@ -95,7 +95,7 @@ below-one (suc n) x f within = elim (lt-or-eq x n within) [
     lt-or-eq : (x n : ℕ) → x < suc n → (x < n) ⊎ (x ≡ n)
     lt-or-eq x n l = elim (cases_eq x n) [ inl e ↦ inr e | inr d ↦ inl (omega arith) ]
 
--- The sum over a list whose elements are below n, by how often each stands there.
+-- The sum over a list whose elements are below n, by how often each is there.
 
 one-more : (b : Bool) (t v : ℕ) → (cond b 1 0 + t) * v ≡ cond b v 0 + t * v
 one-more true t v = add-mul 1 t v ∙ ap (λ z. z + t * v) (one-mul v)
@@ -124,7 +124,7 @@ sum-tour n f tour is =
     sum-times n f tour is.cities
     ∙ below-same n (λ k. times k tour * f k) f (λ k below. ap (λ t. t * f k) (is.once k below) ∙ one-mul (f k))
 
--- no city stands there twice
+-- no city is there twice
 none-past : (n city : ℕ) (xs : List ℕ) → All (λ x. x < n) xs → n ≤ city → times city xs ≡ 0
 none-past n city [] within past = refl
 none-past n city (x ∷ xs) within past =

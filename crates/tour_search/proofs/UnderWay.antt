@@ -127,7 +127,7 @@ kept_better cities t tour known best is of its taken stays = at (beats t tour kn
 
 -- One city more.
 
--- a city that stands there already: no tour goes on with it
+-- a city that is there already: no tour goes on with it
 pub none_again : (n : ℕ) (p tour : List ℕ) (x : ℕ) → 1 ≤ times x p → IsTour n tour → Continues (p ++ x ∷ []) tour → ⊥
 none_again n p tour x there of on =
     let once = tour-once n tour of x in
@@ -177,7 +177,7 @@ is_next cities ways p now x spent left step is below new e its_spent its_left it
     } in
     subst (λ l. IsNext cities ways l (spent + step) (left - out_of ways x)) (sym e) n
 
--- whether a city stands in a list
+-- whether a city is in a list
 pub any_times : (x : ℕ) (p : List ℕ) (b : Bool) → b ≡ list_any (λ y. eqb y x) p → b ≡ false → times x p ≡ 0
 any_times x [] b e is = refl
 any_times x (y ∷ p) b e is = elim (cases_eq y x) [

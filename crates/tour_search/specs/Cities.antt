@@ -18,7 +18,7 @@ pub record AreCities (cities : CitiesModel) : Type 0 where
 abbrev pub costs : CitiesModel → Costs
 costs cities = costs_of cities.count cities.rows
 
--- the number that stands at a city
+-- the number that is at a city
 abbrev pub out_of : List ℕ → ℕ → ℕ
 out_of ways city = slice_index ways city
 

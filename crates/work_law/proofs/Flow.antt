@@ -39,7 +39,7 @@ own_behind common body =
     let e : length (common ++ body) - length body ≡ length common = omega (arith, length-append common body) in
     ap (λ k. drop k (common ++ body)) e ∙ drop_at common body (length common) refl
 
--- what stands before a body of its length is the common part
+-- what comes before a body of its length is the common part
 pub common_before : (common body : List ℕ) → common_bytes (length body) (common ++ body) ≡ common
 common_before common body =
     let e : length (common ++ body) - length body ≡ length common = omega (arith, length-append common body) in

@@ -69,7 +69,7 @@ found_at w id place key sound has is read =
 pub not_within : (place n : ℕ) → (place < n → ⊥) → n ≤ place
 not_within place n past = elim (cases_lt place n) [ inl below ↦ absurd (past below) | inr beyond ↦ beyond ]
 
--- what stands under the key at that place, and beyond the last
+-- what is under the key at that place, and beyond the last
 pub found_under : (w : Inside) (id : UnitId) (place key : ℕ) → IsSound w
     → place ≡ position_or_len (is_unit id) (units_at w.slots w.order.items) → place < length w.order.items
     → key ≡ get_or w.order.items place key → get w.slots key ≡ find (is_unit id) (units_at w.slots w.order.items)

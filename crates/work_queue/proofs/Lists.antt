@@ -117,7 +117,7 @@ pub distinct_added : (units : List Placed) (p : Placed) → HasDistinctIds units
     → HasDistinctIds (units ++ p ∷ [])
 distinct_added units p distinct fresh = all_pairs_push (λ a b. id_of a ≢ id_of b) units p distinct fresh
 
--- the unit that is added last may as well stand first
+-- the unit that is added last may as well come first
 pub added_first : (units : List Placed) (p : Placed) → IsPermutation (units ++ p ∷ []) (p ∷ units)
 added_first units p = IsPermutation-to_front units p
 

@@ -68,14 +68,14 @@ turn_other x y k l differs test = grind (arith, ints, nat_tests)
 pub before_trans : (a b c : Entry) → goes_before a b ≡ true → goes_before b c ≡ true → goes_before a c ≡ true
 before_trans a b c = run_trans a b c (by_turn a b) (by_turn b c) (by_turn a c) (turn_trans a.prio b.prio c.prio a.stamp b.stamp c.stamp)
 
--- of two entries of different stamps one stands before the other
+-- of two entries of different stamps one comes before the other
 pub before_other : (a b : Entry) → a.stamp ≢ b.stamp → goes_before a b ≡ false → goes_before b a ≡ true
 before_other a b differs =
     lower_other a.kind.0 b.kind.0 _ _
     (lower_other (sort_of a.target) (sort_of b.target) _ _
     (lower_other (named_by a.target) (named_by b.target) (by_turn a b) (by_turn b a) (turn_other a.prio b.prio a.stamp b.stamp differs)))
 
--- what stands after an entry of a later run is of a later run
+-- what comes after an entry of a later run is of a later run
 pub run_stays : (a b c : Entry) → runs_before a b ≡ true → goes_before b c ≡ true → runs_before a c ≡ true
 run_stays a b c = run_trans a b c false (by_turn b c) false (λ no _. no)
 
@@ -87,7 +87,7 @@ turn_self x k = grind (arith, ints, nat_tests)
 pub lower_self : (a : ℕ) (t : Bool) → t ≡ false → lower_first a a t ≡ false
 lower_self a t isnt = grind (arith, nat_tests)
 
--- none stands before itself
+-- none comes before itself
 pub before_self : (a : Entry) → goes_before a a ≡ false
 before_self a = lower_self a.kind.0 _ (lower_self (sort_of a.target) _ (lower_self (named_by a.target) _ (turn_self a.prio a.stamp)))
 

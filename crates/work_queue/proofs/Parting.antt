@@ -13,7 +13,7 @@ module _ (front back : List ℕ) (rises : AllPairs (λ a b. a < b) (front ++ bac
       rw (sym (get_or-append-add front back i d), sym (get_or-append-add front back j d))
       (rises (length front + i) (length front + j) d (omega (arith, before)) (omega (arith, long, within)))
 
-  -- what stands in the first list is not above its last
+  -- what is in the first list is not above its last
   not_above : (k d : ℕ) → k < length front → get_or (front ++ back) k d ≤ get_or front (length front - 1) d
   not_above k d within = elim (cases_lt k (length front - 1)) [
     | inl before ↦
@@ -27,7 +27,7 @@ module _ (front back : List ℕ) (rises : AllPairs (λ a b. a < b) (front ++ bac
         omega (arith, same)
   ]
 
-  -- what stands in the other list is above the last of the first
+  -- what is in the other list is above the last of the first
   above : (k d : ℕ) → 0 < length front → length front ≤ k → k < length (front ++ back)
       → get_or front (length front - 1) d < get_or (front ++ back) k d
   above k d some behind within =
@@ -46,7 +46,7 @@ module _ (front back : List ℕ) (rises : AllPairs (λ a b. a < b) (front ++ bac
         absurd (omega (arith, more, last_is d, low, is))
   ]
 
-  -- a number that is above all of the first list stands in the other
+  -- a number that is above all of the first list is in the other
   pub stands_behind : (stamp place n : ℕ) → n ≡ length front → ((d : ℕ) → 0 < length front → get_or front (length front - 1) d < stamp)
       → ((k d : ℕ) → k < length back → get_or back k d ≡ stamp → place ≡ k)
       → (k d : ℕ) → k < length (front ++ back) → get_or (front ++ back) k d ≡ stamp → n + place ≡ k

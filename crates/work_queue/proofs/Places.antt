@@ -1,4 +1,4 @@
--- What stands at a place of the list of units.
+-- What is at a place of the list of units.
 use Rattle.std.proofs.Common.{◌≡◌, ◌<◌, ◌≤◌, ◌↔◌, ℕ, List, length, get_or, None, refl, sym, ap, ◌∙◌, arith, inl, inr, IsNone}
 use Rattle.std.specs.List.{slice_get}
 use Rattle.std.specs.Option.{option_map}

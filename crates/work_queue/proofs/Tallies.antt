@@ -144,7 +144,7 @@ high_stays : (x y t : ℤ) (k l : ℕ) → (int_lt y x || (not (int_lt x y) && n
     → not (int_lt x t) ≡ true
 high_stays x y t k l first high = grind (arith, ints, nat_tests)
 
--- what stands before an entry that is as high is as high
+-- what comes before an entry that is as high is as high
 pub parted_high : (entries : List Entry) (first : Entry) → IsInOrder entries → IsPartitionedBy (λ x. as_high first x) entries
 parted_high entries first order i j d le within is = elim (cases_eq i j) [
   | inl same ↦ rw same is

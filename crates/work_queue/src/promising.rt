@@ -45,7 +45,7 @@ impl WorkQueue {
         Ok(())
     }
 
-    /// The promised unit comes: it stands last, free, and its promise is gone (`with_arrival`). As much room
+    /// The promised unit comes: it comes last, free, and its promise is gone (`with_arrival`). As much room
     /// as its body has bytes was promised to it.
     pub fn arrive(&mut self, unit: Unit)
         requires promised { HasRoom unit.id (length unit.body) self.old.promises }

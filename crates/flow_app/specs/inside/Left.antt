@@ -36,7 +36,7 @@ abbrev pub its_definition : Option Named → Option Definition
 its_definition None = None
 its_definition (Some n) = Some n.definition
 
--- its name as it stands in the line is the name that it defines
+-- its name as it is in the line is the name that it defines
 abbrev pub IsNamed : Named → Type 0
 IsNamed n = n.name.now ≡ name_of n.definition
 

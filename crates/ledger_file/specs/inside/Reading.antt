@@ -58,7 +58,7 @@ rank_guess w = record { 0 = digits_value 10 w }
 abbrev pub kind_guess : List ℕ → WorkType
 kind_guess w = record { 0 = digits_value 10 w }
 
--- what stands before and after the first dot
+-- what comes before and after the first dot
 abbrev pub before_dot : List ℕ → List ℕ
 before_dot [] = []
 before_dot (b ∷ w) = if b == 46 then [] else b ∷ before_dot w

@@ -40,7 +40,7 @@ pub record IsKept (e : Entry) : Type 0 where
   pub row : RowFits (row_of e)
   pub kinds : All kind_fits (kinds_of e)
 
--- the same of an entry with its stamp, which stands before it
+-- so for an entry with its stamp, which comes before it
 unfoldable pub stamped_before : Stamped → List ℕ → List ℕ
 stamped_before s rest = groups 10 s.stamp ++ entry_before s.entry rest
 

@@ -45,7 +45,7 @@ marks_at m w cell = record {
   blanks_in_row = slice_index w.blanks (row_of m cell);
 }
 
--- the digit x + 1 stands at the cell
+-- the digit x + 1 is at the cell
 abbrev pub put_at : ℕ → {S C : ℕ} → Marked S C → ℕ → ℕ → Marked S C
 put_at m w cell x = record {
   cells = slice_set w.cells cell (x + 1);
