@@ -49,10 +49,12 @@ SolvesAs words before after met kept =
     let o = words.options in
     Solves (settings_of o) (behind (extras_of words)) (IsConfigOf o.sizes o.inline) o.inline before after met kept
 
+-- how `drill` ends with these words
 abbrev pub DrillsAs : ℕ → ℕ → RunOptions → Scene → Scene → Option (Fault of_jobs.LineWhy) → Option (Kept Outcome) → Type 0
 DrillsAs count seed options before after met kept =
     Drills count seed (settings_of options) (IsConfigOf options.sizes options.inline) options.inline before after met kept
 
+-- how `tour` ends with these words
 abbrev pub ToursAs : TourWords → Scene → Scene → Option (Fault CitiesWhy) → Option (Kept TourOutcome) → Type 0
 ToursAs words before after met kept = FindsTour (IsConfigOf words.sizes false) before after met kept
 

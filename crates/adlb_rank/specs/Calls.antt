@@ -18,9 +18,11 @@ use Rattle.adlb_rank.specs.declared.replies.Reply.TheVariants as replies
 use Rattle.adlb_rank.specs.declared.replies.Taken.{Taken}
 use Rattle.adlb_rank.specs.declared.replies.Taken.TheVariants as takes
 
+-- a call with its answer
 abbrev pub said_of : Call → Answer → Said
 said_of call answer = record { call = call; answer = answer }
 
+-- the answer that a reply stands for
 abbrev pub answer_of : Reply → Answer
 answer_of replies.Accepted = answers.Fine
 answer_of replies.Rejected = answers.Rejected

@@ -22,6 +22,7 @@ HasKind (Some kinds) kind = Contains kinds kind
 abbrev pub IsFor : Target → Rank → Type 0
 IsFor target rank = class_for rank target < 4
 
+-- a unit of this type and target is permitted to the rank for a request of these types
 abbrev pub Permits : Rank → Option (List WorkType) → WorkType → Target → Type 0
 Permits rank types kind target = HasKind types kind × IsFor target rank
 
@@ -30,8 +31,10 @@ abbrev pub has_kind : Option (List WorkType) → WorkType → Bool
 has_kind None kind = true
 has_kind (Some kinds) kind = list_any (λ k. k.0 == kind.0) kinds
 
+-- the target lets the rank have a unit, as a test
 abbrev pub is_for : Target → Rank → Bool
 is_for target rank = nat_lt (class_for rank target) 4
 
+-- what `Permits` says, as a test
 abbrev pub permitted : Rank → Option (List WorkType) → WorkType → Target → Bool
 permitted rank types kind target = is_for target rank && has_kind types kind

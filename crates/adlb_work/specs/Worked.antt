@@ -22,6 +22,7 @@ abbrev pub shared_bytes : Option (List ℕ) → List ℕ
 shared_bytes None = []
 shared_bytes (Some common) = common
 
+-- the worth of what is sent or got
 abbrev pub parcel_worth : (List ℕ → List ℕ → ℕ) → Parcel → ℕ
 parcel_worth w p = w (shared_bytes p.common) p.own
 

@@ -59,22 +59,28 @@ with_manner a = with_rule (with_rule a (flag_rule (codes "inline"))) (flag_rule 
 abbrev pub with_run : App → App
 with_run a = with_manner (with_work (with_sizes a))
 
+-- the options of `solve`
 abbrev pub solve_app : App
 solve_app = with_rule
     (with_rule (with_run (bare (codes "solve"))) (flag_rule (codes "stats")))
     (flag_rule (codes "ledger"))
 
+-- the options of `check`
 abbrev pub check_app : App
 check_app = bare (codes "check")
 
+-- the options of `make`
 abbrev pub make_app : App
 make_app = with_made (bare (codes "make"))
 
+-- the options of `drill`
 abbrev pub drill_app : App
 drill_app = with_run (with_made (bare (codes "drill")))
 
+-- the options of `tour`
 abbrev pub tour_app : App
 tour_app = with_rule (with_sizes (bare (codes "tour"))) (flag_rule (codes "progress"))
 
+-- the options of `draw`
 abbrev pub draw_app : App
 draw_app = bare (codes "draw")

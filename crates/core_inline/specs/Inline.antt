@@ -19,6 +19,7 @@ use Rattle.rank_client.specs.Seat.{Seat}
 use Rattle.server_core.specs.declared.states.LeftUnit.{LeftUnit}
 use Rattle.core_inline.specs.Left.{IsLeft}
 
+-- what contracts see of a run in line
 pub record Run : Type 0 where
   -- its numbers
   pub config : Config
@@ -56,6 +57,7 @@ zeroth = record { 0 = 0 }
 abbrev pub seat_by : Config → Seat
 seat_by config = record { ranks = config.ranks; servers = config.servers; limit = config.limit; me = zeroth }
 
+-- the seat of the only rank
 abbrev pub seat_of : Run → Seat
 seat_of run = seat_by run.config
 

@@ -12,6 +12,7 @@ use Rattle.server_law.specs.Step.{ticked}
 use Rattle.server_law.specs.Sure.{SitsIn, Sure}
 use Rattle.core_law.specs.Own.{IsWish}
 
+-- the letters after the front one
 abbrev pub behind_front : List Letter → List Letter
 behind_front [] = []
 behind_front (l ∷ rest) = rest

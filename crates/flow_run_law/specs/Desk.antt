@@ -26,6 +26,7 @@ pub record Desk : Type 0 where
   pub held : Option UnitNote
   pub ended : Bool
 
+-- the desk before the first call
 abbrev pub at_start : Desk
 at_start = record { stored = []; put = []; owed = []; kept = []; tried = false; held = None; ended = false }
 
@@ -71,6 +72,7 @@ brought flow (Some (Rule i op a b)) d = record d { owed = (i, apply op a b) ∷ 
 brought (Some flow) (Some (Answer i v)) d = record d { stored = add (i, v) d.stored }
 brought None (Some (Answer i v)) d = d
 
+-- the unit of an answer
 abbrev pub unit_of : ℕ × ℕ → FlowUnit
 unit_of x = Answer x.0 x.1
 

@@ -18,6 +18,7 @@ op_byte Min = 3
 op_byte Max = 4
 op_byte Xor = 5
 
+-- the operation of a byte
 abbrev pub op_in : ℕ → Option Op
 op_in byte =
     if byte == 1 then Some Add
@@ -40,6 +41,7 @@ abbrev pub rule_with : ℕ → Option Op → ℕ → ℕ → Option FlowUnit
 rule_with i (Some op) a b = Some (Rule i op a b)
 rule_with i None a b = None
 
+-- the rule of a body
 abbrev pub rule_in : List ℕ → Option FlowUnit
 rule_in body =
     if length body == 21
@@ -47,6 +49,7 @@ rule_in body =
     (from_be_bytes w64 (take 8 (drop 13 body)))
     else None
 
+-- the answer of a body
 abbrev pub answer_in : List ℕ → Option FlowUnit
 answer_in body =
     if length body == 12
@@ -88,5 +91,6 @@ form_of ranks (Answer i v) = record {
   body = answer_body i v;
 }
 
+-- the units of a flow, as they are put and read
 abbrev pub forms : ℕ → Forms
 forms ranks = record { form = form_of ranks; fits = unit_fits; read = unit_in }

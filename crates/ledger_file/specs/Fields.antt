@@ -53,6 +53,7 @@ word (told ends.Exhausted) = codes "exhausted"
 abbrev pub in_u32 : ℕ → Bool
 in_u32 n = nat_lt n (2 ^ 32)
 
+-- the number fits 32 bits with a sign
 abbrev pub in_i32 : ℤ → Bool
 in_i32 (pos n) = nat_lt n (2 ^ 31)
 in_i32 (negsuc n) = nat_lt n (2 ^ 31)
@@ -75,5 +76,6 @@ within (wanted (Some kinds)) = nat_lt 0 (length kinds) && nat_le (length kinds) 
 within (body bs) = list_all (λ b. nat_lt b (2 ^ 8)) bs
 within (told e) = true
 
+-- the field is within its range
 abbrev pub IsWithin : Field → Type 0
 IsWithin f = IsTrue (within f)

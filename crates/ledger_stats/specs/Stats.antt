@@ -15,6 +15,7 @@ counts Granted (entries_of.Granted server rank call unit) = true
 counts Pushed (entries_of.Arrived server unit) = true
 counts statistic entry = false
 
+-- a text with a line feed
 abbrev pub line : List ℕ → List ℕ
 line text = text ++ 10 ∷ []
 

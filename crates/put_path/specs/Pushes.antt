@@ -83,9 +83,11 @@ abbrev pub some_push : (StandingPush → Bool) → Option StandingPush → Bool
 some_push test None = false
 some_push test (Some p) = test p
 
+-- the server is asked for room for the unit
 abbrev pub asks : Pushing → Server → UnitId → Bool
 asks p to id = some_push (is_push_as to id false) p.push
 
+-- the unit, or a cancel of it, was sent to the server
 abbrev pub sent_to : Pushing → Server → UnitId → Bool
 sent_to p to id = some_push (is_push_as to id true) p.push
 
@@ -93,6 +95,7 @@ sent_to p to id = some_push (is_push_as to id true) p.push
 abbrev pub is_query : Pushing → Bool
 is_query p = some_push (λ s. not s.sent) p.push
 
+-- the unit, or a cancel of it, was sent
 abbrev pub is_under_way : Pushing → Bool
 is_under_way p = some_push (λ s. s.sent) p.push
 
@@ -106,6 +109,7 @@ shown p = (p.to, p.id, p.sent)
 abbrev pub IsPressed : Config → Queue → Type 0
 IsPressed config q = config.limit - config.limit / 8 < charge_of q
 
+-- what `IsPressed` says, as a test
 abbrev pub is_pressed : Config → Queue → Bool
 is_pressed config q = nat_lt (config.limit - config.limit / 8) (charge_of q)
 
@@ -133,6 +137,7 @@ query_of config me p q = if may_push config p q then option_map (query_to config
 abbrev pub begun : Pushing → PushQuery → Pushing
 begun p q = record { push = Some (asks_room q.to q.id q.length); pushes = one_more p.pushes }
 
+-- the push that begins, if there is one
 abbrev pub begun_if : Pushing → Option PushQuery → Pushing
 begun_if p None = p
 begun_if p (Some q) = begun p q

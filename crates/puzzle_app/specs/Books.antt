@@ -27,12 +27,15 @@ pub record Books : Type 0 where
   pub came : List Arrival
   pub ended : Bool
 
+-- books between calls
 abbrev pub going : List Task → Option (List ℕ) → List Arrival → Books
 going tasks on came = record { tasks = tasks; on = on; held = None; came = came; ended = false }
 
+-- books with a unit that is granted
 abbrev pub holding : UnitNote → List Arrival → Books
 holding note came = record { tasks = []; on = None; held = Some note; came = came; ended = false }
 
+-- books after an end was told
 abbrev pub shut : List Task → Option (List ℕ) → List Arrival → Books
 shut tasks on came = record { tasks = tasks; on = on; held = None; came = came; ended = true }
 
@@ -57,10 +60,12 @@ brought grain common (Some unit) came = received grain (arrival common unit) [] 
 abbrev pub over_bytes : List ℕ → List Job → List Arrival
 over_bytes common jobs = map (arrival common) (as_units jobs)
 
+-- books after a batch was refused: its jobs are worked by the rank
 abbrev pub without_batch : ℕ → List ℕ → List Job → List Task → List Arrival → Books
 without_batch grain common jobs tasks came =
     going (put_all (flat_map (makes grain) (over_bytes common jobs)) ++ tasks) None (came ++ over_bytes common jobs)
 
+-- a call with its answer
 abbrev pub said_of : Call → Answer → Said
 said_of call answer = record { call = call; answer = answer }
 

@@ -13,6 +13,7 @@ use Rattle.job_units.specs.Reading.{fetched}
 use Rattle.puzzle_app.specs.Arrivals.{Arrival}
 use Rattle.puzzle_app.specs.Tasks.{Task, Put, Begin, End, as_units}
 
+-- the call, if it is a put
 abbrev pub put_call : Call → List Call
 put_call (calls_to.Put kind prio target answer body) = calls_to.Put kind prio target answer body ∷ []
 put_call _ = []
@@ -31,6 +32,7 @@ note_of _ = None
 abbrev pub calls_of : List Made → List Call
 calls_of units = map put_of units
 
+-- the puts of what came
 abbrev pub came_calls : List Arrival → List Call
 came_calls came = map (λ (a : Arrival). put_of a.unit) came
 
@@ -51,6 +53,7 @@ abbrev pub refused : List (List Job) → Call → Answer → List Made
 refused (jobs ∷ batches) (calls_to.BeginBatch common) answers.Rejected = as_units jobs
 refused batches call answer = []
 
+-- the units of batches that were refused
 unfoldable pub all_refused : List (List Job) → List Said → List Made
 all_refused batches [] = []
 all_refused batches (s ∷ said) = refused batches s.call s.answer ++ all_refused (batches_after s.call batches) said

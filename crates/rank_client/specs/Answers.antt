@@ -17,6 +17,7 @@ abbrev pub answered : Result Answer Trouble → Option Answer
 answered (Ok answer) = Some answer
 answered (Err trouble) = None
 
+-- the trouble of a call that failed
 abbrev pub troubled : Result Answer Trouble → Option Trouble
 troubled (Ok answer) = None
 troubled (Err trouble) = Some trouble
@@ -29,29 +30,35 @@ answers_put answers.Rejected = true
 answers_put (answers.Ended end) = true
 answers_put _ = false
 
+-- a reserve can be answered so
 abbrev pub answers_reserve : Answer → Bool
 answers_reserve (answers.Granted note) = true
 answers_reserve (answers.Ended end) = true
 answers_reserve _ = false
 
+-- a try can be answered so
 abbrev pub answers_try : Answer → Bool
 answers_try (answers.Granted note) = true
 answers_try answers.NoCurrent = true
 answers_try (answers.Ended end) = true
 answers_try _ = false
 
+-- a fetch can be answered so
 abbrev pub answers_fetch : Answer → Bool
 answers_fetch (answers.Body body) = true
 answers_fetch _ = false
 
+-- the end of a batch or of the problem, and Finish, can be answered so
 abbrev pub answers_done : Answer → Bool
 answers_done answers.Fine = true
 answers_done _ = false
 
+-- a count can be answered so
 abbrev pub answers_count : Answer → Bool
 answers_count (answers.Info info) = true
 answers_count _ = false
 
+-- the call can be answered so
 abbrev pub answers_call : Call → Answer → Bool
 answers_call (calls_to.Put kind prio target answer body) = answers_put
 answers_call (calls_to.Reserve types) = answers_reserve

@@ -22,6 +22,7 @@ pub record Scene : Type 0 where
   pub refused : ℕ
   pub started : ℕ
 
+-- what is seen of the outside
 abbrev pub scene : Option (List ℕ) → ℕ → Option (List ℕ) → ℕ → Bool → ℕ → ℕ → Scene
 scene left reads taken writes flushed refused started =
     record { left = left; reads = reads; taken = taken; writes = writes; flushed = flushed; refused = refused; started = started }
@@ -31,6 +32,7 @@ pub record ReadsNothing (before after : Scene) : Type 0 where
   pub left : after.left ≡ before.left
   pub reads : after.reads ≡ before.reads
 
+-- no thread was started or refused
 pub record StartsNone (before after : Scene) : Type 0 where
   pub refused : after.refused ≡ before.refused
   pub started : after.started ≡ before.started
@@ -61,6 +63,7 @@ pub record Asks {A : Type 0} (asks : List ℕ → A → Type 0) (bytes : List �
 abbrev pub HasAsked : {A : Type 0} → (List ℕ → A → Type 0) → Option (List ℕ) → Type 0
 HasAsked {A} asks left = (bytes : List ℕ) → left ≡ Some bytes → (asked : A) × Asks asks bytes asked
 
+-- if the bytes are told, their line is refused with this reason
 abbrev pub IsRefusedAt : {W : Type 0} → (List ℕ → ℕ → W → Type 0) → Option (List ℕ) → ℕ → W → Type 0
 IsRefusedAt refuses left line why = (bytes : List ℕ) → left ≡ Some bytes → (length bytes ≤ input_limit) × refuses bytes line why
 

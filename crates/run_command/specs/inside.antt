@@ -57,10 +57,12 @@ IsTroubleOf long (troubles.TooLong stamp) = (2 ^ 48 ≤ stamp) × long
 
 -- Which fault one of a run is.
 
+-- the fault of a trouble
 abbrev pub fault_by : {W : Type 0} → Trouble → Fault W
 fault_by troubles.Memory = Memory
 fault_by (troubles.TooLong stamp) = TooLong stamp
 
+-- the fault of a run
 abbrev pub fault_ran : {W : Type 0} → RanFault → Fault W
 fault_ran runs.NoThread = NoThread
 fault_ran runs.Memory = Memory
@@ -132,6 +134,7 @@ pub record WritesPart {W K : Type 0} (kept : K) (text : List ℕ) (before after 
   pub taken : Takes before after (take unwritten.taken text)
   pub cause : unwritten.fault ≡ sinks.Failed → Rises faults faults'
 
+-- how the writing of a text ended: whole, or in part
 abbrev pub Writes : {W K : Type 0} → K → List ℕ → Option (List ℕ) → Option (List ℕ) → ℕ → ℕ → Bool → Option (Fault W) → Option K → Type 0
 Writes kept text before after faults faults' flushed fault keeps =
     WritesAll kept text before after flushed fault keeps ⊎ WritesPart kept text before after faults faults' fault keeps

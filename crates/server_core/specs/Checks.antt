@@ -24,6 +24,7 @@ abbrev pub out_after : Out → List ServerSaying → List Entry → ServerModel 
 out_after out list entries s =
     record { sends = out.sends ++ stamped s list; entries = out.entries ++ entries; room = out.room }
 
+-- the sayings are sent
 abbrev pub said : Out → List ServerSaying → ServerModel → Served
 said out list s = record { state = all_counted s list; sends = out.sends ++ stamped s list; entries = out.entries }
 
@@ -39,10 +40,12 @@ step_says Exhausted s = to_others s tells.Exhaust
 step_says Shutdown s = to_others s tells.Shutdown
 step_says Ended s = []
 
+-- a check that finds that all work is used up enters it
 abbrev pub step_enters : RingStep → List Entry
 step_enters Exhausted = enters.Exhausted ∷ []
 step_enters _ = []
 
+-- and tells all idle ranks
 abbrev pub step_tells : RingStep → List Waiting → List Act
 step_tells Exhausted waiting = tells_all ends_by.Exhausted [] waiting
 step_tells _ waiting = []

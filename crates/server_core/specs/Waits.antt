@@ -31,9 +31,11 @@ over_by true exhausted = Some ends_by.NoMoreWork
 over_by false true = Some ends_by.Exhausted
 over_by false false = None
 
+-- the end that calls are told, if they are over
 abbrev pub over : Kept → Option End
 over k = over_by k.done k.exhausted
 
+-- a wish of its parts
 abbrev pub wish_of : Rank → ℕ → Option (List WorkType) → Wish
 wish_of rank request types = record { rank = rank; request = request; types = types }
 
@@ -72,9 +74,11 @@ abbrev pub offered_by : Bool → Option Placed → Option Placed
 offered_by true best = None
 offered_by false best = best
 
+-- the unit that a wish gets here, if it does
 abbrev pub offered : Kept → Wish → Option Placed
 offered k wish = offered_by k.done (best_for k.queue wish.rank wish.types)
 
+-- the server after it was asked for the wish
 abbrev pub asked : ServerModel → Wish → ServerModel
 asked s wish = pinning s wish.rank (offered s.kept wish) (after_ask (parked_of s) wish (offered s.kept wish))
 

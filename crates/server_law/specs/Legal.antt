@@ -37,9 +37,11 @@ IsOpen b (Some common) = (p : Part) → part_of b common.batch ≡ Some p → p.
 abbrev pub Does : Bag → Rank → Status → Type 0
 Does b rank status = (r : RankState) × (rank_at b rank ≡ Some r) × (r.status ≡ status)
 
+-- the rank asks by this reserve
 abbrev pub AsksFor : Bag → Wish → Type 0
 AsksFor b wish = Does b wish.rank (is_at.Asking wish.request wish.types)
 
+-- the rank tries by this request
 abbrev pub TriesFor : Bag → Wish → Type 0
 TriesFor b wish = Does b wish.rank (is_at.Trying wish.request wish.types)
 

@@ -15,6 +15,7 @@ use Rattle.spending_law.specs.UnderWay.{pending_of}
 abbrev pub begun_by : Config → List Entry → Bag → Rank → ℕ
 begun_by config ledger last rank = length (calls config ledger rank) + (if is_some (pending_of last rank) then 1 else 0)
 
+-- how many calls all ranks have begun
 abbrev pub all_begun : Config → List Entry → Bag → ℕ
 all_begun config ledger last = over_ranks config.ranks (begun_by config ledger last)
 
@@ -27,6 +28,7 @@ abbrev pub is_batch : Job → Bool
 is_batch (Puzzle g) = false
 is_batch (Batch common items) = true
 
+-- how many batches the jobs have
 abbrev pub batches : List Job → ℕ
 batches jobs = count_by is_batch jobs
 

@@ -3,6 +3,7 @@
 use Rattle.std.specs.Prelude.{◌≡◌, ◌≢◌, ◌<◌, ◌≤◌, ℕ, ◌+◌, ◌*◌, zero, suc, ◌/◌, ◌%◌, ◌==◌, nat_lt, Bool, false, ◌&&◌, ◌||◌, not, List, []}
 use Rattle.std.specs.Prelude.{◌∷◌, length, slice_index, Option, Some, None, IsTrue, if◌then◌else◌, filter}
 
+-- the cells of a grid, by rows
 abbrev pub Cells : Type 0
 Cells = List ℕ
 
@@ -14,12 +15,15 @@ side m = m * m
 abbrev pub size : ℕ → ℕ
 size m = side m * side m
 
+-- the row of a cell
 abbrev pub row_of : ℕ → ℕ → ℕ
 row_of m cell = cell / side m
 
+-- the column of a cell
 abbrev pub column_of : ℕ → ℕ → ℕ
 column_of m cell = cell % side m
 
+-- the box of a cell
 abbrev pub box_of : ℕ → ℕ → ℕ
 box_of m cell = row_of m cell / m * m + column_of m cell / m
 
@@ -65,6 +69,7 @@ HasConflict m g =
 abbrev pub clash : ℕ → Cells → ℕ → ℕ → Bool
 clash m g i j = shares m i j && (slice_index g i == slice_index g j) && not (slice_index g i == 0)
 
+-- some two cells clash
 abbrev pub conflict : ℕ → Cells → Bool
 conflict m g = any_below (length g) (λ i. any_below i (λ j. clash m g i j))
 
@@ -81,9 +86,11 @@ count_up from (suc n) = from ∷ count_up (from + 1) n
 abbrev pub candidates : ℕ → Cells → ℕ → List ℕ
 candidates m g cell = filter (λ d. not (used m g cell d)) (count_up 1 (side m))
 
+-- how many candidates a cell has
 abbrev pub choices : ℕ → Cells → ℕ → ℕ
 choices m g cell = length (candidates m g cell)
 
+-- the cell is one of the grid, and blank
 pub record IsBlank (g : Cells) (cell : ℕ) : Type 0 where
   pub within : cell < length g
   pub blank : slice_index g cell ≡ 0
@@ -99,9 +106,11 @@ abbrev pub fewer : ℕ → Cells → ℕ → Option ℕ → Option ℕ
 fewer m g n None = if slice_index g n == 0 then Some n else None
 fewer m g n (Some c) = if (slice_index g n == 0) && nat_lt (choices m g n) (choices m g c) then Some n else Some c
 
+-- the first of the first n cells with the fewest candidates
 unfoldable pub fewest_below : ℕ → Cells → ℕ → Option ℕ
 fewest_below m g zero = None
 fewest_below m g (suc n) = fewer m g n (fewest_below m g n)
 
+-- the first blank cell with the fewest candidates
 abbrev pub fewest : ℕ → Cells → Option ℕ
 fewest m g = fewest_below m g (length g)

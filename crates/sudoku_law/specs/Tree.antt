@@ -74,9 +74,11 @@ pub record Met : Type 0 where
   pub children : List (ℕ × Cells)
   pub over : Bool
 
+-- nothing was met
 abbrev pub nothing : Met
 nothing = record { solutions = []; children = []; over = false }
 
+-- what was met in two walks, one after the other
 abbrev pub both : Met → Met → Met
 both a b = record { solutions = a.solutions ++ b.solutions; children = a.children ++ b.children; over = a.over || b.over }
 

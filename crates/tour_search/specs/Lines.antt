@@ -7,6 +7,7 @@ use Rattle.std.specs.Str.Lines.{strip_carriage_return}
 abbrev pub line_limit : ℕ
 line_limit = 2 ^ 20
 
+-- the line is longer than a line may be
 abbrev pub is_long : List ℕ → Bool
 is_long line = nat_lt line_limit (length line)
 

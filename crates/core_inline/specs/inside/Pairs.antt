@@ -28,9 +28,11 @@ use Rattle.core_inline.specs.Left.{IsLeft}
 abbrev pub first_server : Server
 first_server = record { 0 = 0 }
 
+-- the only rank
 abbrev pub rank_in : Seen → ClientModel
 rank_in w = client_of w.world zeroth
 
+-- the only server
 abbrev pub server_in : Seen → ServerModel
 server_in w = pool_of w.world first_server
 
@@ -42,9 +44,11 @@ is_ended s = s.kept.shut && slice_index_or s.kept.finished 0 false
 abbrev pub with_call : List Said → Call → Answer → List Said
 with_call said call answer = said ++ record { call = call; answer = answer } ∷ []
 
+-- the only rank as an actor
 abbrev pub by_rank : Actor
 by_rank = by.Rank zeroth
 
+-- the only server as an actor
 abbrev pub by_server : Actor
 by_server = by.Server first_server
 
@@ -52,6 +56,7 @@ by_server = by.Server first_server
 abbrev pub asked : World → List Letter
 asked w = under_way w by_rank by_server
 
+-- the letters on their way to the rank
 abbrev pub told : World → List Letter
 told w = under_way w by_server by_rank
 

@@ -20,6 +20,7 @@ sort_of (Only rank) = 0
 sort_of (Soft rank) = 1
 sort_of Any = 2
 
+-- the rank that a target names, or 0
 abbrev pub named_by : Target → ℕ
 named_by (Only rank) = rank.0
 named_by (Soft rank) = rank.0
@@ -46,6 +47,7 @@ goes_before a b = by_run a b (by_turn a b)
 abbrev pub runs_before : Entry → Entry → Bool
 runs_before a b = by_run a b false
 
+-- each entry goes before all later ones
 abbrev pub IsInOrder : List Entry → Type 0
 IsInOrder entries = AllPairs (λ a b. goes_before a b ≡ true) entries
 
