@@ -25,7 +25,7 @@ pub struct Choice {
     pub count: u32,
 }
 
-// The bit that stands for a digit.
+/// The bit that stands for a digit.
 #[inline]
 pub fn bit_of(digit: u8) -> u16
     requires least { 1 ≤ digit }
@@ -35,7 +35,7 @@ pub fn bit_of(digit: u8) -> u16
     1 << (digit - 1)
 }
 
-// The box of the cell in this row and column, by rows of boxes.
+/// The box of the cell in this row and column, by rows of boxes.
 #[inline]
 pub fn box_at<const M: usize>(row: usize, column: usize) -> usize
     requires low { 2 ≤ M }

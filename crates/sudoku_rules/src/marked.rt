@@ -26,7 +26,7 @@ pub struct Marks {
     pub blanks_in_row: u16,
 }
 
-// Takes the lowest bit out of a mask, and gives its place.
+/// Takes the lowest bit out of a mask, and gives its place.
 #[inline]
 pub fn take_lowest(left: &mut u16) -> usize
     requires some { 0 < left.old }
