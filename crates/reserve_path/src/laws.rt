@@ -7,7 +7,7 @@ ghost use Rattle.adlb_unit.specs.declared.names.Rank.{Rank};
 ghost use Rattle.adlb_unit.specs.declared.names.Server.{Server};
 ghost use Rattle.adlb_unit.specs.declared.names.UnitId.{UnitId};
 ghost use Rattle.adlb_unit.specs.declared.names.WorkType.{WorkType};
-ghost use Rattle.adlb_unit.specs.declared.units.Unit.{Unit};
+ghost use Rattle.adlb_unit.specs.declared.units.Unit.{Unit as Work};
 ghost use Rattle.work_queue.specs.Best.{IsBest, IsOffered};
 ghost use Rattle.work_queue.specs.Queue.{Queue, id_of, with_arrival, with_unit, without};
 ghost use Rattle.work_queue.specs.declared.placing.Placed.{Placed};
@@ -42,10 +42,10 @@ pub fn parked_laws()
     ensures grant { (q : Queue) (m : ParkedModel) (rank : Rank) (types : Option (List WorkType)) → NoneFits q m →
         NoneFits (with_grant q rank types) m }
     ensures left { (q : Queue) (m : ParkedModel) (id : UnitId) → NoneFits q m → NoneFits (without q id) m }
-    ensures offer { (q : Queue) (m : ParkedModel) (unit : Unit) → NoneFits q m →
+    ensures offer { (q : Queue) (m : ParkedModel) (unit : Work) → NoneFits q m →
         NoneFits (given (taker_of unit m) (record { unit = unit; pin = None }) (with_unit q unit))
         (gone_if m (taker_of unit m)) }
-    ensures arrival { (q : Queue) (m : ParkedModel) (unit : Unit) → NoneFits q m →
+    ensures arrival { (q : Queue) (m : ParkedModel) (unit : Work) → NoneFits q m →
         NoneFits (given (taker_of unit m) (record { unit = unit; pin = None }) (with_arrival q unit))
         (gone_if m (taker_of unit m)) }
 {}
@@ -58,6 +58,6 @@ pub fn wish_laws()
         NoneWished (with_grant q wish.rank wish.types) (after_ask m wish (best_for q wish.rank wish.types)) }
     ensures grant { (q : Queue) (m : ParkedModel) (rank : Rank) (types : Option (List WorkType)) → NoneWished q m →
         NoneWished (with_grant q rank types) m }
-    ensures hint { (q : Queue) (m : ParkedModel) (unit : Unit) → NoneWished q m →
+    ensures hint { (q : Queue) (m : ParkedModel) (unit : Work) → NoneWished q m →
         hints_next unit.kind unit.target m.parked.wishes ≡ None → NoneWished (with_unit q unit) m }
 {}
