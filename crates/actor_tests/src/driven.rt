@@ -389,14 +389,14 @@ fn said_last(alloc: Global, told: &Told) -> Result<String, Fail> {
     }
 }
 
-// A client of rank 0, one of two ranks, with this many servers gives what stands beside each line.
+// A client of rank 0, one of two ranks, with this many servers gives what is written beside each line.
 fn play(rt: &impl Abort, alloc: Global, servers: u32, scene: &[(Line, &str)]) -> Result<(), Fail> {
     let config = Config::new(2, servers, 64)?;
     let mut client = ClientCore::new(alloc, config, Rank(0))?;
     go_through(rt, alloc, &mut client, scene)
 }
 
-// The client gives what stands beside each line.
+// The client gives what is written beside each line.
 fn go_through(
     rt: &impl Abort,
     alloc: Global,

@@ -437,7 +437,7 @@ fn yes(alloc: Global, holds: bool) -> Result<String, Fail> {
     Ok(String::from_str(alloc, if holds { "yes" } else { "no" })?)
 }
 
-// A server of a run with `ranks` ranks and `servers` servers, and with the lowest limit, gives what stands beside
+// A server of a run with `ranks` ranks and `servers` servers, and with the lowest limit, gives what is written beside
 // each line.
 pub(crate) fn play(
     rt: &impl Abort,
@@ -454,7 +454,7 @@ pub(crate) fn play(
     go_through(rt, alloc, &mut server, scene)
 }
 
-// The server gives what stands beside each line.
+// The server gives what is written beside each line.
 fn go_through(
     rt: &impl Abort,
     alloc: Global,

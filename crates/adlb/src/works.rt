@@ -180,7 +180,7 @@ fn total(counts: &[u128]) -> u128
     total
 }
 
-// What stands in all of these lists. Its only error is `Memory`.
+// What is in all of these lists. Its only error is `Memory`.
 fn joined<T: Drop>(alloc: Global, lists: Vec<Vec<T>>) -> Result<Vec<T>, Fault>
     ensures all { IfOk result (λ all. (test : T → Bool) → count_by test all.items ≡ sum_by (λ l. count_by test l.items) lists.items) }
     ensures memory { IfErr result (λ fault. fault ≡ Fault.Memory) }

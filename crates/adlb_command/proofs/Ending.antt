@@ -122,6 +122,7 @@ module _ (here : Scene) where
   unread_as said words.Usage none = subst (λ s. EndsAs s here here (Some Usage) None) (sym (none refl)) (unsaid (Some Usage) (inl refl))
   unread_as said words.Memory none = out_of_memory said
 
+  -- a fault before anything is read ends the command with nothing read and no report
   pub ends_unread : (said : Option Command) (met : WordsFault) (fault : Option RunFault) (kept : Option AnyKept) →
       (met ≡ words.Usage → said ≡ None) → fault ≡ Some (fault_said met) → kept ≡ None → EndsAs said here here fault kept
   ends_unread said met fault kept none is nothing =
@@ -132,6 +133,7 @@ module _ (here : Scene) where
 
 module _ (before after : Scene) (met : Option (Fault of_jobs.LineWhy)) (own : Option (Kept Outcome)) (settings : Settings) (config : Config)
   where
+    -- how `solve` ends by its run is how it ends by its words
     pub solved_said : (w : SolveWords) (extras : Extras) → settings ≡ settings_of w.options → extras ≡ extras_of w
         → IsConfigOf w.options.sizes w.options.inline config →
         Solves settings (behind extras) (λ x. x ≡ config) w.options.inline before after met own → SolvesAs w before after met own
@@ -145,6 +147,7 @@ module _ (before after : Scene) (met : Option (Fault of_jobs.LineWhy)) (own : Op
           run = ran_as config before after (IsConfigOf w.options.sizes w.options.inline) is w.options.inline own here.run;
         }
 
+    -- how `drill` ends by its run is how it ends by its words
     pub drilled_said : (count seed : ℕ) (options : RunOptions) → settings ≡ settings_of options
         → IsConfigOf options.sizes options.inline config →
         Drills count seed settings (λ x. x ≡ config) options.inline before after met own → DrillsAs count seed options before after met own
@@ -161,6 +164,7 @@ module _ (before after : Scene) (met : Option (Fault of_jobs.LineWhy)) (own : Op
 
 -- The words say a run over cities, and this is how it ended.
 
+-- how `tour` ends by its run is how it ends by its words
 pub toured_said : (before after : Scene) (met : Option (Fault CitiesWhy)) (own : Option (Kept TourOutcome)) (config : Config)
     (w : RunWords) → IsConfigOf w.sizes false config → FindsTour (λ x. x ≡ config) before after met own → ToursAs w before after met own
 toured_said before after met own config w is found = record {
@@ -180,6 +184,7 @@ flowed_said before after met own config w is found = record {
 -- The words say a command, and this is how it ended.
 
 module _ (said : Option Command) (before after : Scene) (fault : Option RunFault) (kept : Option AnyKept) where
+  -- a command that says `solve` ends as `solve` does
   pub ends_solved : (w : SolveWords) → said ≡ Some (Solve w) → (met : Option (Fault of_jobs.LineWhy)) (own : Option (Kept Outcome)) →
       fault ≡ option_map (fault_run why_of) met → kept ≡ option_map Puzzles own → SolvesAs w before after met own →
       EndsAs said before after fault kept
@@ -188,6 +193,7 @@ module _ (said : Option Command) (before after : Scene) (fault : Option RunFault
       record { met = met; own = own; fault_is = fault_is; kept_is = same; ended = ended } in
       subst (λ s. EndsAs s before after fault kept) (sym is) run
 
+  -- a command that says `drill` ends as `drill` does
   pub ends_drilled : (count seed : ℕ) (options : RunOptions) → said ≡ Some (Drill count seed options) →
       (met : Option (Fault of_jobs.LineWhy)) (own : Option (Kept Outcome)) → fault ≡ option_map (fault_run why_of) met →
       kept ≡ option_map Puzzles own → DrillsAs count seed options before after met own → EndsAs said before after fault kept
@@ -196,6 +202,7 @@ module _ (said : Option Command) (before after : Scene) (fault : Option RunFault
       record { met = met; own = own; fault_is = fault_is; kept_is = same; ended = ended } in
       subst (λ s. EndsAs s before after fault kept) (sym is) run
 
+  -- a command that says `tour` ends as `tour` does
   pub ends_toured : (w : RunWords) → said ≡ Some (Tour w) → (met : Option (Fault CitiesWhy)) (own : Option (Kept TourOutcome)) →
       fault ≡ option_map (fault_run why_of_cities) met → kept ≡ option_map Tours own → ToursAs w before after met own →
       EndsAs said before after fault kept
@@ -204,6 +211,7 @@ module _ (said : Option Command) (before after : Scene) (fault : Option RunFault
       record { met = met; own = own; fault_is = fault_is; kept_is = same; ended = ended } in
       subst (λ s. EndsAs s before after fault kept) (sym is) run
 
+  -- a command that says `flow` ends as `flow` does
   pub ends_flowed : (w : RunWords) → said ≡ Some (Flow w) → (met : Option (Fault FlowWhy)) (own : Option (Kept FlowOutcome)) →
       fault ≡ option_map (fault_run why_of_flow) met → kept ≡ option_map Flows own → FlowsAs w before after met own →
       EndsAs said before after fault kept
@@ -212,12 +220,15 @@ module _ (said : Option Command) (before after : Scene) (fault : Option RunFault
       record { met = met; own = own; fault_is = fault_is; kept_is = same; ended = ended } in
       subst (λ s. EndsAs s before after fault kept) (sym is) run
 
+  -- a command that says `check` ends as `check` does
   pub ends_checked : said ≡ Some Check → EndsAsChecked before after fault kept → EndsAs said before after fault kept
   ends_checked is ended = subst (λ s. EndsAs s before after fault kept) (sym is) ended
 
+  -- a command that says `draw` ends as `draw` does
   pub ends_drawn : said ≡ Some Draw → EndsAsDrawn before after fault kept → EndsAs said before after fault kept
   ends_drawn is ended = subst (λ s. EndsAs s before after fault kept) (sym is) ended
 
+  -- a command that says `make` ends as `make` does
   pub ends_made : (count seed : ℕ) → said ≡ Some (Make count seed) → EndsAsMade count seed before after fault kept →
       EndsAs said before after fault kept
   ends_made count seed is ended = subst (λ s. EndsAs s before after fault kept) (sym is) ended
@@ -247,6 +258,7 @@ no_usage_made (Ok done) e = absurd (cc)
 no_usage_made (Err makes.Write) e = absurd (cc)
 no_usage_made (Err makes.Memory) e = absurd (cc)
 
+-- the fault of usage comes only if the words say no command
 pub usage_unsaid : (said : Option Command) (before after : Scene) (kept : Option AnyKept) →
     EndsAs said before after (Some Usage) kept → said ≡ None
 usage_unsaid None before after kept ends = refl

@@ -29,6 +29,7 @@ either_is : (fault told : Option RunFault) → fault ≡ told → (told ≡ None
 either_is fault told same (inl e) = inl (same ∙ e)
 either_is fault told same (inr e) = inr (same ∙ e)
 
+-- a `make` of which no write fails ends well or for want of memory
 pub made_whole : (count seed : ℕ) (before after : Scene) (fault : Option RunFault) (kept : Option AnyKept) →
     EndsAsMade count seed before after fault kept → (Rises before.writes after.writes → ⊥) → (fault ≡ None) ⊎ (fault ≡ Some Memory)
 made_whole count seed before after fault kept ends no_write =

@@ -30,12 +30,15 @@ ended_fine means (Some (runs.TooLarge taken)) is = absurd is
 
 module _ {W : Type 0} (means : W → LineWhy) (fault : Option RunFault) (met : Option (Fault W))
     (same : fault ≡ option_map (fault_run means) met) where
+  -- a run that ended well is a command that ended well
   pub fine_told : IsFineRun met → IsFine fault
   fine_told is = subst IsFine (sym same) (fine_ended means met is)
 
+  -- a command that ended well is a run that did
   pub fine_met : IsFine fault → IsFineRun met
   fine_met is = ended_fine means met (subst IsFine same is)
 
+  -- a fault of the run that is one of two is one of two for the command
   pub either_told : (a b : Option (Fault W)) → (met ≡ a) ⊎ (met ≡ b) →
       (fault ≡ option_map (fault_run means) a) ⊎ (fault ≡ option_map (fault_run means) b)
   either_told a b (inl is) = inl (same ∙ ap (λ m. option_map (fault_run means) m) is)

@@ -52,13 +52,16 @@ SolvesAs words before after met kept =
     let o = words.options in
     Solves (settings_of o) (behind (extras_of words)) (IsConfigOf o.sizes o.inline) o.inline before after met kept
 
+-- how `drill` ends with these words
 abbrev pub DrillsAs : ℕ → ℕ → RunOptions → Scene → Scene → Option (Fault of_jobs.LineWhy) → Option (Kept Outcome) → Type 0
 DrillsAs count seed options before after met kept =
     Drills count seed (settings_of options) (IsConfigOf options.sizes options.inline) options.inline before after met kept
 
+-- how `tour` ends with these words
 abbrev pub ToursAs : RunWords → Scene → Scene → Option (Fault CitiesWhy) → Option (Kept TourOutcome) → Type 0
 ToursAs words before after met kept = FindsTour (IsConfigOf words.sizes false) before after met kept
 
+-- how `flow` ends with these words
 abbrev pub FlowsAs : RunWords → Scene → Scene → Option (Fault FlowWhy) → Option (Kept FlowOutcome) → Type 0
 FlowsAs words before after met kept = FindsValues (IsConfigOf words.sizes false) before after met kept
 

@@ -11,6 +11,7 @@ use Rattle.solve_command.specs.declared.extras.Extras.{Extras}
 abbrev pub settings_of : RunOptions → Settings
 settings_of options = record { budget = options.budget; grain = options.grain }
 
+-- what `solve` is to write after the report
 abbrev pub extras_of : SolveWords → Extras
 extras_of words = record { stats = words.stats; ledger = words.ledger }
 

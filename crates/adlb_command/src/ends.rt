@@ -97,8 +97,9 @@ impl AnyKept {
     }
 }
 
-/// How a command ended: its exit status, why it did not write its whole output, if so, and what it kept of a run: something if some of
-/// the output was written, or if a write failed. After a check it has what is wrong with the ledger, if anything is.
+/// How a command ended: its exit status, why it did not write its whole output, if so, and what it kept of a run.
+/// Something is kept if some of the output was written, or if a write failed. After a check it has what is wrong with
+/// the ledger, if anything is.
 #[derive(Drop)]
 pub struct RunEnd {
     pub status: u8,

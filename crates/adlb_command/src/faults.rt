@@ -28,7 +28,7 @@ pub enum LineWhy {
     /// It is an item that is not of its form.
     #[error("number")]
     Number,
-    /// It begins with none of the words.
+    /// It does not begin with one of the words.
     #[error("word")]
     Word,
     /// It is not what is due in the text of a ledger.

@@ -4,7 +4,7 @@ use Rattle.std.proofs.Math.Nat.{min-eq_left, min-eq_right, min-le_right}
 use Rattle.std.proofs.lemmas.Bool.{ltb-false, ltb-true}
 use Rattle.adlb_io.specs.Outside.{Rises, one_more}
 
--- it rises, or stands at its last value
+-- it rises, or is at its last value
 pub one_more_rises : (n : ℕ) → Rises n (one_more n)
 one_more_rises n = by_test (ltb n (2 ^ 64 - 1)) refl
   where

@@ -18,5 +18,6 @@ pub record Seen : Type 0 where
   pub writes : ℕ
   pub flushed : Bool
 
+-- what is seen of a source and a sink
 abbrev pub seen : Option (List ℕ) → ℕ → Option (List ℕ) → ℕ → Bool → Seen
 seen left reads taken writes flushed = record { left = left; reads = reads; taken = taken; writes = writes; flushed = flushed }

@@ -53,11 +53,11 @@ pub trait Source {
     /// What is left, where the source tells it.
     ghost left: { Self → Option (List ℕ) };
 
-    /// How often the source has failed. It never falls, and stands still at the last value of a `u64`.
+    /// How often the source has failed. It never falls, and stays at the last value of a `u64`.
     ghost faults: { Self → ℕ };
 
     /// Puts some of the bytes that are left to the front of the room, and answers how many. It answers 0 only at the end, or for
-    /// a room without place. `Failed` comes only if the count of faults rose (or stands at its last value), and changes nothing
+    /// a room without place. `Failed` comes only if the count of faults rose (or is at its last value), and changes nothing
     /// of what is left. Otherwise the count stays.
     fn read(&mut self, room: &mut [u8]) -> Result<usize, Failed>
         ensures bound { IfOk result (λ n. n ≤ length room.old) }

@@ -24,7 +24,7 @@ impl<O, P: Promise<O>> Task<O, P> {
 }
 
 /// What starts threads, and counts what it started and what it refused, each start by one. Neither count ever falls, and
-/// each stands still at the last value of a `u64`.
+/// each stays at the last value of a `u64`.
 pub trait Spawner: Threads {
     /// The handle that its threads wait by.
     type Rt: Wait + Send + Copy + 'static;

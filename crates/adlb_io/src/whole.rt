@@ -11,7 +11,7 @@ use adlb_unit::or_no_memory;
 use std::alloc::Global;
 
 /// Reads until the room is full or the source is at its end, and answers how many bytes were read. It takes no more
-/// of the source than the room has place for. `Failed` comes only if the source's count of faults rose (or stands at its
+/// of the source than the room has place for. `Failed` comes only if the source's count of faults rose (or is at its
 /// last value). Otherwise no read failed, and the count stays.
 pub fn fill<S: Source>(source: &mut S, room: &mut [u8]) -> Result<usize, Failed>
     ensures bound { IfOk result (λ n. n ≤ length room.old) }
@@ -35,7 +35,7 @@ pub fn fill<S: Source>(source: &mut S, room: &mut [u8]) -> Result<usize, Failed>
 const ROOM: usize = 0x1_0000;
 
 /// Reads until the source is at its end or `most` bytes were read (`Reads`). `Failed` comes only if the source's count of
-/// faults rose (or stands at its last value), and `Memory` if an allocation failed; the count stays then, and at `Ok`.
+/// faults rose (or is at its last value), and `Memory` if an allocation failed; the count stays then, and at `Ok`.
 pub fn read_up_to<S: Source>(
     alloc: Global,
     source: &mut S,
@@ -83,7 +83,7 @@ pub struct Unwritten {
 }
 
 /// Writes the whole text and flushes. A refusal tells how many bytes of the text the sink took before, which are its
-/// first; if it took any, they are not flushed. `Failed` comes only where the sink's count of faults rose (or stands at
+/// first; if it took any, they are not flushed. `Failed` comes only where the sink's count of faults rose (or is at
 /// its last value).
 pub fn write_all<K: Sink>(sink: &mut K, text: &[u8]) -> Result<(), Unwritten>
     ensures taken { OnOk result (Takes (K.taken sink.old) (K.taken sink.new) text.now) }

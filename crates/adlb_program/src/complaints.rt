@@ -6,8 +6,9 @@ use command_words::refusal;
 use std::alloc::Global;
 use std::fmt;
 
-/// What the program says on standard error of a fault: a line that tells it; at `Usage` a line that tells which word was refused, and
-/// why; and lines that say what would have been accepted, and of a puzzle's length which it is. No clause says anything of these texts.
+/// What the program says on standard error of a fault: a line that names it. At `Usage` a line follows that names the
+/// refused word and why. Then come lines that say what would have been accepted, and a puzzle's length if it is
+/// wrong. No clause says anything of these texts.
 #[derive(Drop)]
 pub struct Complaint {
     fault: RunFault,

@@ -1,9 +1,10 @@
-//! The program `adlbrun`, but for its `main`: the words of its command line, the command that they say, and what is said on standard
-//! error if it does not end well.
+//! The program `adlbrun`, but for its `main`: the words of its command line, their command, and what standard error
+//! is told if it does not end well.
 //!
-//! It stands on `run_adlb` of `adlb_command`, over standard input and output, and on `refusal` of `command_words`. What is said of a
-//! fault is a `Complaint`: its first line tells the fault, and the lines behind it what would have been accepted. With `--progress` a
-//! `Teller` says each second how far the run is, by what the ranks count at their gates (`Progress`).
+//! It stands on `run_adlb` of `adlb_command`, over standard input and output, and on `refusal` of `command_words`.
+//! What is said of a fault is a `Complaint`: its first line tells the fault, and the lines after it what would have
+//! been accepted. With `--progress` a `Teller` says each second how far the run is, by what the ranks count at their
+//! gates (`Progress`).
 #![tactic(auto)]
 
 mod complaints;

@@ -18,9 +18,11 @@ use Rattle.adlb_rank.specs.declared.replies.Reply.TheVariants as replies
 use Rattle.adlb_rank.specs.declared.replies.Taken.{Taken}
 use Rattle.adlb_rank.specs.declared.replies.Taken.TheVariants as takes
 
+-- a call with its answer
 abbrev pub said_of : Call → Answer → Said
 said_of call answer = record { call = call; answer = answer }
 
+-- the answer that a reply stands for
 abbrev pub answer_of : Reply → Answer
 answer_of replies.Accepted = answers.Fine
 answer_of replies.Rejected = answers.Rejected
@@ -55,8 +57,8 @@ Takes call before after (takes.Ended end) = after ≡ before ++ said_of call (an
 abbrev pub Begins : List ℕ → LinkModel → LinkModel → Type 0
 Begins common old new = Made old new (calls_to.BeginBatch common) (Ok answers.Fine)
 
--- What a batch makes of a link, if what is done in it can lead (`inside`) from a link to a link with this result: it is begun, that is
--- done, and it is ended; or one of these fails; or it is not begun.
+-- What a batch makes of a link, where `inside` is what can be done in it. It is begun, that is done, and it is ended; or one of these
+-- fails; or it is not begun.
 abbrev pub HasBatched : {S T : Type 0} → (S → LinkModel) → (S → Result T Trouble → S → Type 0) → List ℕ → S → S
     → Result (Batched T) Trouble → Type 0
 HasBatched link inside common old new (Ok (batches.Done done)) =
@@ -71,8 +73,8 @@ HasBatched {T} link inside common old new (Err trouble) =
     ⊎ ((a : _) × (b : _) × (done : T) × Begins common (link old) (link a) × inside a (Ok done) b
     × Made (link b) (link new) calls_to.EndBatch (Err trouble)))
 
--- What every function over a rank keeps, whatever it comes to: the rank still runs, it is that of before, its transcript is no shorter, at
--- Ok a batch goes on exactly if one did, and a stamp that is too large is the link's own trouble.
+-- What every function over a rank keeps, whatever it comes to. The rank still runs, it is that of before, and its transcript is no shorter.
+-- At Ok a batch goes on exactly if one did, and a stamp that is too large is the link's own trouble.
 pub record Stays {T : Type 0} (old new : LinkModel) (result : Result T Trouble) : Type 0 where
   pub running : has_finished new.said ≡ false
   pub seat : new.seat ≡ old.seat

@@ -81,8 +81,8 @@ pub trait Rank {
         ensures made { Made (link self.old) (link self.new) (Call.Count kind) (count_came result) }
         ensures stays { Stays (link self.old) (link self.new) result };
 
-    /// Says that the problem is done: each server has heard it, and from then on each put, each taking and each beginning of a batch, of
-    /// every rank, is told `NoMoreWork`.
+    /// Says that the problem is done: each server has heard it. From then on each put, each taking and each beginning
+    /// of a batch, of every rank, is told `NoMoreWork`.
     fn done(&mut self) -> Result<(), Trouble>
         requires running { has_finished (link self.old).said ≡ false }
         ensures made { Made (link self.old) (link self.new) Call.SetDone (done_came result) }

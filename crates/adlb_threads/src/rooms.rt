@@ -6,10 +6,10 @@ ghost use Rattle.core_progress_law.specs.Room.{most_letters};
 
 use adlb_unit::{Config, Rank, Server};
 
-/// A bound on the letters under way to one actor: for each server as many as can be under way to one server, but for notices, at
-/// the server to which the most can be (`core_progress_law::room_laws`). It is taken once for each server, since notices go to
-/// server 0 alone. While that goes on, who sends it one may wait for room. After it has ended at most one notice comes for each
-/// letter that is under way to another server. At most one letter is under way to a rank.
+/// A bound on the letters under way to one actor: the most that can be under way to a server, but for notices
+/// (`core_progress_law::room_laws`). It is taken once for each server, since notices go to server 0 alone. While that
+/// goes on, who sends it one may wait for room. After it has ended at most one notice comes for each letter that is
+/// under way to another server. At most one letter is under way to a rank.
 pub fn capacity(config: &Config) -> u32
     ensures there { 1 ≤ result }
     ensures each { (server : Server) → server.0 < config.now.servers →

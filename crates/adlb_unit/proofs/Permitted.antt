@@ -22,8 +22,10 @@ for_soft rank first = by_test (first.0 == rank.0)
     by_test true = refl
     by_test false = refl
 
+-- if the test passes, the target lets the rank have a unit
 pub is_for_is : (target : Target) (rank : Rank) → is_for target rank ≡ true → IsFor target rank
 is_for_is target rank test = ltb-true (class_for rank target) 4 test
 
+-- if the target lets the rank have a unit, the test passes
 pub is_is_for : (target : Target) (rank : Rank) → IsFor target rank → is_for target rank ≡ true
 is_is_for target rank is = lt-ltb (class_for rank target) 4 is

@@ -11,18 +11,23 @@ stamp_limit = 2 ^ 48
 abbrev pub body_limit : ℕ
 body_limit = 2 ^ 20
 
+-- a run has 32 ranks at most
 abbrev pub rank_limit : ℕ
 rank_limit = 32
 
+-- and 8 servers at most
 abbrev pub server_limit : ℕ
 server_limit = 8
 
+-- a request lists 16 types at most
 abbrev pub type_limit : ℕ
 type_limit = 16
 
+-- a run can have this number of ranks
 abbrev pub InRanks : ℕ → Type 0
 InRanks ranks = (1 ≤ ranks) × (ranks ≤ rank_limit)
 
+-- a run can have this number of servers
 abbrev pub InServers : ℕ → Type 0
 InServers servers = (1 ≤ servers) × (servers ≤ server_limit)
 

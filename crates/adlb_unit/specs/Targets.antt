@@ -22,5 +22,6 @@ in_ranks config (Soft rank) = nat_lt rank.0 config.ranks
 abbrev pub home_of : ℕ → Rank → ℕ
 home_of servers rank = rank.0 % servers
 
+-- the server at which the rank is at home
 abbrev pub home : Config → Rank → Server
 home config rank = record { 0 = home_of config.servers rank }

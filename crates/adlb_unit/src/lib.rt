@@ -6,12 +6,12 @@
 //!     let mine = permits(Rank(1), &types, WorkType(2), Target::Soft(Rank(3))); // true
 //!     let (home, next) = (config.home(Rank(1)), config.next(Server(1)));
 //!
-//! It stands on nothing else of the workspace. Of its definitions, `specs/Permit.antt` says which units are permitted to
-//! a rank and which suit it better, and `specs/Targets.antt` which targets a run has and where its ranks are at home.
-//! When ids are equal is in `specs/Ids.antt`, and how great a run's numbers may be in `specs/Limits.antt`. Letters have
+//! It stands on nothing else of the workspace. Of its definitions, `specs/Permit.antt` says which units are permitted
+//! to a rank and which suit it better. `specs/Targets.antt` has the targets of a run and the homes of its ranks. When
+//! ids are equal is in `specs/Ids.antt`, and how great a run's numbers may be in `specs/Limits.antt`. Letters have
 //! three: `specs/Links.antt` for their stamps and places, `specs/Kinds.antt` for who sends which message, and
-//! `specs/Infos.antt` for what is said of free units. A payload's bytes are in `specs/Held.antt`, and how many of them a
-//! fetch gives in `specs/Totals.antt`.
+//! `specs/Infos.antt` for what is said of free units. A payload's bytes are in `specs/Held.antt`, and how many of
+//! them a fetch gives in `specs/Totals.antt`.
 #![tactic(auto)]
 
 mod actors;

@@ -98,7 +98,7 @@ impl Types {
         Some(&self.kinds[..self.count])
     }
 
-    /// The type is wanted: any is, or it stands in the list (`HasKind`, and as a test `has_kind`).
+    /// The type is wanted: any is, or it is in the list (`HasKind`, and as a test `has_kind`).
     pub fn has(&self, kind: WorkType) -> bool
         ensures wanted { IsTrue result ↔ HasKind self.now kind }
         ensures test { result ≡ has_kind self.now kind }
@@ -107,8 +107,8 @@ impl Types {
     }
 }
 
-/// The class of a target for an asking rank (`class_for`), the nearest first: 0 for this rank alone, 1 for this rank before
-/// others, 2 for any, 3 for another rank before this one, and 4 for another rank alone.
+/// The class of a target for an asking rank (`class_for`), the nearest first. It is 0 for this rank alone, 1 for this
+/// rank before others, 2 for any, 3 for another rank before this one, and 4 for another rank alone.
 pub fn class_for(rank: Rank, target: Target) -> u8
     ensures { result ≡ class_for rank target }
 {

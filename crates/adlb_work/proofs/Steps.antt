@@ -116,8 +116,7 @@ module _ (w : List ℕ → List ℕ → ℕ) (begin ranks : ℕ) where
   few_more : (said : List Said) (s : Said) (total : ℕ) → total ≤ most said → total + 2 ^ 64 ≤ most (said ++ s ∷ [])
   few_more said s total few = let one = length_push said s in omega (arith, one)
 
-  -- A call in this batch, after which that one goes on, and by which units of so much worth are sent and none is got; then what waits
-  -- counts as it is worked.
+  -- A call in this batch, after which it goes on, that sends units of this worth and gets nothing. Then what waits counts as it is worked.
   step : (batch then : Option (List ℕ)) (said now : List Said) (s : Said) (sends total waiting after more : ℕ) → now ≡ said ++ s ∷ []
       → ((rest : List Said) → IsOrderly ranks None then rest → IsOrderly ranks None batch (s ∷ rest))
       → ((rest : List Said) → sent_worth w batch (s ∷ rest) ≡ sends + sent_worth w then rest)

@@ -15,6 +15,7 @@ use Rattle.adlb_rank.specs.Calls.{said_of}
 abbrev pub put_of : WorkType → ℤ → Target → List ℕ → Call
 put_of kind prio target body = Put kind prio target None body
 
+-- a reserve of any type that was granted
 abbrev pub grant : UnitNote → Said
 grant note = said_of (Reserve None) (Granted note)
 

@@ -22,6 +22,7 @@ abbrev pub shared_bytes : Option (List ℕ) → List ℕ
 shared_bytes None = []
 shared_bytes (Some common) = common
 
+-- the worth of what is sent or got
 abbrev pub parcel_worth : (List ℕ → List ℕ → ℕ) → Parcel → ℕ
 parcel_worth w p = w (shared_bytes p.common) p.own
 
@@ -41,7 +42,7 @@ begins whole rank = cond (rank.0 == 0) whole 0
 abbrev pub most : List Said → ℕ
 most said = 2 ^ 64 * length said
 
--- A rank below this number, between its calls, in the batch of these common bytes or in none: it is orderly so far, and what it
+-- A rank below this number, between its calls, in the batch of these common bytes or outside a batch. It is orderly so far, and what it
 -- gathered, has waiting and sent is worth what it began with and got.
 pub record IsGoing (w : List ℕ → List ℕ → ℕ) (begin ranks : ℕ) (batch : Option (List ℕ)) (said : List Said)
     (total waiting : ℕ) : Type 0 where
@@ -50,7 +51,7 @@ pub record IsGoing (w : List ℕ → List ℕ → ℕ) (begin ranks : ℕ) (batc
       ≡ begin + got_worth w (said ++ rest) + sent_worth w batch rest
   pub few : total ≤ most said
 
--- A rank that was told an end: it is orderly, and if no put was told an end, what it gathered and sent is worth what it began with and got.
+-- A rank that was told an end is orderly. If no put was told an end, what it gathered and sent is worth what it began with and got.
 pub record HasWorked (w : List ℕ → List ℕ → ℕ) (begin ranks : ℕ) (batch : Option (List ℕ)) (said : List Said) (total : ℕ) : Type 0 where
   pub orderly : IsOrderly ranks None None (said ++ last_calls batch)
   pub kept : All (λ s. IsEndedWell s.call s.answer) (said ++ last_calls batch) →

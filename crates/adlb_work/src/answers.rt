@@ -12,7 +12,8 @@ use adlb_unit::{NoMemory, Target, WorkType};
 pub trait Answers {
     type Answer: Drop;
 
-    // How many answers that pass a test a unit gives, with all that comes of it: for each test, so the answers are known but for their order.
+    // How many answers that pass a test a unit gives, with all that comes of it: for each test, so the answers are
+    // known but for their order.
     ghost worth: { Self → (Self.Answer → Bool) → List ℕ → ℕ };
 
     // How many such answers the first units give together.

@@ -12,8 +12,8 @@ use adlb_unit::{NoMemory, Payload, Target, WorkType};
 pub trait Batch {
     type Answer: Drop;
 
-    // How many answers that pass a test a unit of these common and these own bytes gives, with all that comes of it: for each test, so
-    // the answers are known but for their order.
+    // How many answers that pass a test a unit of these common and own bytes gives, with all that comes of it. It is
+    // said for each test, so the answers are known but for their order.
     ghost worth: { Self → (Self.Answer → Bool) → List ℕ → List ℕ → ℕ };
 
     // How many such answers the first units give together.

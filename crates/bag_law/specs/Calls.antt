@@ -26,6 +26,7 @@ IsTrueNote b rank note =
     (u : Placed) × (unit_of b note.id ≡ Some u) × (note ≡ note_of note.server u.unit)
     × ((u.place ≡ Pinned note.server rank) ⊎ (u.place ≡ Spent))
 
+-- what an answer says holds of the bag
 abbrev pub IsTrueAnswer : Bag → Rank → Answer → Type 0
 IsTrueAnswer b rank (answers.Granted note) = IsTrueNote b rank note
 IsTrueAnswer b rank _ = Prim.Unit {0}
@@ -35,6 +36,7 @@ abbrev pub IsTrueCall : Bag → Call → Type 0
 IsTrueCall b (calls_to.Fetch id) = (u : Placed) × (unit_of b id ≡ Some u) × (u.place ≡ Spent)
 IsTrueCall b _ = Prim.Unit {0}
 
+-- what a call and its answer say holds of the bag
 abbrev pub IsTrueSaid : Bag → Rank → Said → Type 0
 IsTrueSaid b rank s = IsTrueAnswer b rank s.answer × IsTrueCall b s.call
 

@@ -22,6 +22,7 @@ abbrev pub one : Bool → ℕ
 one true = 1
 one false = 0
 
+-- a number if the test passes, and otherwise 0
 abbrev pub if_so : Bool → ℕ → ℕ
 if_so true n = n
 if_so false n = 0
@@ -37,6 +38,7 @@ if_there f (Some x) = f x
 abbrev pub unit_in : List Placed → UnitId → Option Placed
 unit_in units id = find (λ u. same_unit u.unit.id id) units
 
+-- the first part of a batch in a list
 abbrev pub part_in : List Part → BatchId → Option Part
 part_in parts batch = find (λ p. same_batch p.batch batch) parts
 
@@ -50,9 +52,11 @@ batch_id id = record { rank = id.rank; number = id.number }
 abbrev pub units_named : UnitId → List Placed → ℕ
 units_named id units = sum_by (λ u. one (same_unit u.unit.id id)) units
 
+-- how many parts the id of a unit names as a batch
 abbrev pub parts_named : UnitId → List Part → ℕ
 parts_named id parts = sum_by (λ p. one (same_batch p.batch (batch_id id))) parts
 
+-- how many promises the id of a unit has
 abbrev pub promises_named : UnitId → List Promise → ℕ
 promises_named id promises = sum_by (λ p. one (same_unit p.id id)) promises
 
@@ -62,6 +66,7 @@ brings n (does.Putting u) = one (u.id.number == n)
 brings n (does.Keeping call common) = one (call == n)
 brings n _ = 0
 
+-- what the rank brings at this count
 abbrev pub brought : ℕ → RankState → ℕ
 brought n r = brings n r.status
 
@@ -75,9 +80,11 @@ used n r = one (nat_lt n r.next)
 abbrev pub accepted_of : BatchId → List Part → ℕ
 accepted_of batch parts = sum_by (λ p. if_so (same_batch p.batch batch) p.accepted) parts
 
+-- how often the parts of a batch were fetched
 abbrev pub fetched_of : BatchId → List Part → ℕ
 fetched_of batch parts = sum_by (λ p. if_so (same_batch p.batch batch) p.fetched) parts
 
+-- the unit at this place is spent
 abbrev pub is_spent : UnitPlace → Bool
 is_spent Spent = true
 is_spent _ = false
@@ -95,6 +102,7 @@ abbrev pub owing : BatchId → List Placed → Status → ℕ
 owing batch units (does.Fetching call id true) = one (is_of batch (common_in units id))
 owing batch units _ = 0
 
+-- how many fetches of the batch's part are still due
 abbrev pub owes : BatchId → List Placed → List RankState → ℕ
 owes batch units ranks = sum_by (λ r. owing batch units r.status) ranks
 
@@ -102,10 +110,12 @@ owes batch units ranks = sum_by (λ r. owing batch units r.status) ranks
 abbrev pub dues : List Part → ℕ
 dues parts = sum_by (λ p. one (is_due p)) parts
 
+-- the entry frees a part
 abbrev pub frees : Entry → ℕ
 frees (Freed server batch) = 1
 frees _ = 0
 
+-- the entry may make a part due
 abbrev pub may_make_due : Entry → ℕ
 may_make_due (Closed server batch) = 1
 may_make_due (CommonFetched server rank batch) = 1

@@ -87,10 +87,12 @@ IsReady units n id false =
 IsReady units n id true =
     (u : Placed) × (c : CommonRef) × (unit_in units id ≡ Some u) × (u.place ≡ Spent) × (u.unit.common ≡ Some c)
 
+-- if the rank fetches, what it fetches is ready
 abbrev pub IsFetchOf : List Placed → ℕ → Status → Type 0
 IsFetchOf units n (does.Fetching call id own) = IsReady units n id own
 IsFetchOf units n _ = Prim.Unit {0}
 
+-- each rank that fetches has its unit ready
 pub record FetchesAreReady (ranks : List RankState) (units : List Placed) : Type 0 where
   pub each : (n : ℕ) (r : RankState) → slice_get ranks n ≡ Some r → IsFetchOf units n r.status
 

@@ -18,6 +18,7 @@ use Rattle.bag_ledger.proofs.Fetches.{fetching_test, fetched_test, common_fetche
 use Rattle.bag_ledger.proofs.Pushes.{promised_test, left_test, arrived_test, withdrawn_test}
 use Rattle.bag_ledger.proofs.Ends.{counting_test, counted_test, done_test, exhausted_test, over_test, finished_test}
 
+-- an entry passes its test in a bag exactly if it is legal there
 pub legal_test : (b : Bag) (e : Entry) → IsTest b e
 legal_test b (Putting rank call kind prio target answer body) = putting_test b rank call kind prio target answer body
 legal_test b (Refused server id used) = refused_test b server id used
@@ -51,9 +52,11 @@ passed : (t : Bool) (x next : Bag) → (if t then Some x else None) ≡ Some nex
 passed true x next e = (refl, cc)
 passed false x next e = absurd (cc)
 
+-- a step of the relation is what the function answers
 pub row_is : (b next : Bag) (e : Entry) → Steps b e next → step b e ≡ Some next
 row_is b next e s = rw (and_from (in_turn b e) (legal b e) s.0 ((legal_test b e).1 s.1), s.2) refl
 
+-- what the function answers for an entry is a step of the relation
 pub is_row : (b next : Bag) (e : Entry) → step b e ≡ Some next → Steps b e next
 is_row b next e is =
     let t = passed (in_turn b e && legal b e) (after b e) next is in

@@ -29,6 +29,7 @@ use Rattle.bag_ledger.proofs.Tests.{some_is, same_server_is}
 use Rattle.bag_ledger.proofs.Lookups.{find_before, find_appended, sum_changed, sum_lowered, sum_filtered}
 use Rattle.bag_ledger.proofs.Moves.{moved_here, moved_keeps, moved_is, unpromised_other, unpromised_is}
 
+-- the charge of each server is within the limit
 abbrev pub IsWithin : Bag → Type 0
 IsWithin b = (server : Server) → charge b server ≤ b.limit
 
@@ -202,6 +203,7 @@ tracked_promised b server id n u there long is = record {
     by_case x p (inl e) = is.measured x p e
     by_case x p (inr c) = (u, rw (← same_unit_is id x c.0) there, long ∙ ap (λ (q : Promise). q.length) c.1)
 
+-- a legal entry keeps what is tracked of the charges
 pub step_tracked : (found : Bag → Bool) (b : Bag) (e : Entry) → LegalWhere found b e → IsTracked b → IsTracked (after b e)
 step_tracked found b (Accepted server id) l is =
     let put = unit_put (λ r. putting r.status) (rank_at b id.rank) l.0 l.1 l.2 (rw l.3 refl) in
@@ -227,6 +229,7 @@ step_tracked found b (Arrived server id) l is =
 step_tracked found b (Withdrawn server id) l is = tracked_unpromised b id l.0 l.2 l.3 is
 step_tracked found b _ l is = record { measured = is.measured; promised = is.promised }
 
+-- a run from a bag within the limit ends in one within the limit
 pub run_within : (found : Bag → Bool) (b last : Bag) (es : List Entry) → IsRunWhere found b es last → IsTracked b → IsWithin b
     → IsWithin last
 run_within found b last [] run tracked is = rw (← run) is
@@ -235,8 +238,10 @@ run_within found b last (e ∷ es) run tracked is =
     run_within found run.0 last es run.2 (rw next (step_tracked found b e run.1.1 tracked))
     (rw next (step_within found b e run.1.1 tracked is))
 
+-- at the start the charge of each server is within the limit
 pub start_within : (ranks servers limit : ℕ) → IsWithin (empty ranks servers limit)
 start_within ranks servers limit s = omega arith
 
+-- at the start promises and units agree
 pub start_tracked : (ranks servers limit : ℕ) → IsTracked (empty ranks servers limit)
 start_tracked ranks servers limit = record { measured = λ x p e. absurd (cc); promised = λ x u to s. let none = s.0 in absurd (cc) }

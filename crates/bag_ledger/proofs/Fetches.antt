@@ -13,6 +13,7 @@ use Rattle.bag_ledger.specs.Step.{anything}
 use Rattle.bag_ledger.proofs.Tests.{IsTest, has_is, three, same_number, pinned_is, pinned_to_is, fetching_is, is_of_is, is_of_from}
 use Rattle.bag_ledger.proofs.Tests.{begins_is, begins_from, server_is, server_from, keeps_is, keeps_from}
 
+-- the test of Fetching says where it is legal
 pub fetching_test : (b : Bag) (rank : Rank) (call : ℕ) (id : UnitId) → IsTest b (Fetching rank call id)
 fetching_test b rank call id = (
   λ e. let t = and_parts _ _ e in
@@ -23,6 +24,7 @@ fetching_test b rank call id = (
   λ s. rw (begins_from b rank call anything s.0 s.3 refl, s.4.0, s.4.1) (same_number rank.0),
 )
 
+-- the test of Fetched says where it is legal
 pub fetched_test : (b : Bag) (server : Server) (rank : Rank) (id : UnitId) → IsTest b (Fetched server rank id)
 fetched_test b server rank id = (
   λ e. let t = three _ _ _ e in
@@ -37,6 +39,7 @@ fetched_test b server rank id = (
   λ s. rw (s.3, s.4, same_unit_from id id refl, server_from b server s.5, s.6.0, s.6.1, same_number server.0) (same_number rank.0),
 )
 
+-- the test of CommonFetched says where it is legal
 pub common_fetched_test : (b : Bag) (server : Server) (rank : Rank) (batch : BatchId) → IsTest b (CommonFetched server rank batch)
 common_fetched_test b server rank batch = (
   λ e. let t = and_parts _ _ e in

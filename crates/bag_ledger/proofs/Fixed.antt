@@ -29,6 +29,7 @@ step_limit b (Accepted server id) = taken_limit server (option_and_then (λ r. p
 step_limit b (Kept server batch) = kept_limit server batch (option_and_then (λ r. keeping r.status) (rank_at b batch.rank)) b
 step_limit b _ = refl
 
+-- a run leaves the limit as it was
 pub run_limit : (found : Bag → Bool) (b last : Bag) (es : List Entry) → IsRunWhere found b es last → last.limit ≡ b.limit
 run_limit found b last [] run = ap (λ (x : Bag). x.limit) (sym run)
 run_limit found b last (e ∷ es) run = run_limit found run.0 last es run.2 ∙ ap (λ (x : Bag). x.limit) run.1.2 ∙ step_limit b e
@@ -52,6 +53,7 @@ step_servers b (Accepted server id) = taken_servers server (option_and_then (λ 
 step_servers b (Kept server batch) = kept_servers server batch (option_and_then (λ r. keeping r.status) (rank_at b batch.rank)) b
 step_servers b _ = refl
 
+-- a run leaves the number of servers as it was
 pub run_servers : (found : Bag → Bool) (b last : Bag) (es : List Entry) → IsRunWhere found b es last → last.servers ≡ b.servers
 run_servers found b last [] run = ap (λ (x : Bag). x.servers) (sym run)
 run_servers found b last (e ∷ es) run = run_servers found run.0 last es run.2 ∙ ap (λ (x : Bag). x.servers) run.1.2 ∙ step_servers b e

@@ -187,18 +187,21 @@ start_caused ranks servers limit = λ end h. by_end end h
 
 -- In a run from the start.
 
+-- a put is rejected only after each server has refused it
 pub rejected_by_all : (found : Bag → Bool) (ranks servers limit : ℕ) (b : Bag) (es : List Entry) (rank : Rank) (call : ℕ)
     → IsRunWhere found (empty ranks servers limit) es b → Legal b (Rejected rank call) → (s : Server) → s.0 < b.servers
     → list_any (refuses s rank call) es ≡ true
 rejected_by_all found ranks servers limit b es rank call run l s below =
     rejected_heard b es rank call (run_known found (empty ranks servers limit) b [] es run (start_known ranks servers limit)) l s below
 
+-- the answer that nothing is there comes only after each server has looked
 pub looked_by_all : (found : Bag → Bool) (ranks servers limit : ℕ) (b : Bag) (es : List Entry) (rank : Rank) (call : ℕ)
     → IsRunWhere found (empty ranks servers limit) es b → Legal b (NoCurrent rank call) → (s : Server) → s.0 < b.servers
     → list_any (looks s rank call) es ≡ true
 looked_by_all found ranks servers limit b es rank call run l s below =
     no_current_heard b es rank call (run_known found (empty ranks servers limit) b [] es run (start_known ranks servers limit)) l s below
 
+-- a call ends for a cause only if the run has an entry of that cause
 pub over_by_cause : (found : Bag → Bool) (ranks servers limit : ℕ) (b : Bag) (es : List Entry) (rank : Rank) (call : ℕ) (end : End)
     → IsRunWhere found (empty ranks servers limit) es b → Legal b (Over rank call end) → list_any (causes end) es ≡ true
 unfolding IsCaused

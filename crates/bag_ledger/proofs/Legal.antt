@@ -69,10 +69,12 @@ run_split found b last (x ∷ xs) ys run =
     let s = run_split found run.0 last xs ys run.2 in
     (s.0, (run.0, run.1, s.1), s.2)
 
+-- two runs, of which one begins where the other ends, are one run
 pub joined_where : (found : Bag → Bool) (b middle last : Bag) (xs ys : List Entry) → IsRunWhere found b xs middle
     → IsRunWhere found middle ys last → IsRunWhere found b (xs ++ ys) last
 joined_where found b middle last [] ys first then = rw first then
 joined_where found b middle last (x ∷ xs) ys first then = (first.0, first.1, joined_where found first.0 middle last xs ys first.2 then)
 
+-- two runs, of which one begins where the other ends, are one run
 pub run_joined : (b middle last : Bag) (xs ys : List Entry) → IsRun b xs middle → IsRun middle ys last → IsRun b (xs ++ ys) last
 run_joined = joined_where settled

@@ -28,9 +28,11 @@ find_other f test other keeps apart (y ∷ ys) = by_test (find_other f test othe
     by_test rest true is = rw (is, keeps y, apart y is) refl
     by_test rest false is = rw (is, rest) refl
 
+-- what is found in a list is found in it after an append
 pub find_before : {X : Type 0} (test : X → Bool) (xs ys : List X) (x : X) → find test xs ≡ Some x → find test (xs ++ ys) ≡ Some x
 find_before test xs ys x e = rw (find-append test xs ys, e) refl
 
+-- what is found after an append of one element was found before, or is that element
 pub find_appended : {X : Type 0} (test : X → Bool) (xs : List X) (y x : X) → find test (xs ++ y ∷ []) ≡ Some x
     → (find test xs ≡ Some x) ⊎ ((test y ≡ true) × (y ≡ x))
 find_appended test [] y x e = by_test (test y) refl e
@@ -45,6 +47,7 @@ find_appended test (z ∷ zs) y x e = by_test (find_appended test zs y x) (test 
     by_test rest true is found = inl (rw is (rw is at found))
     by_test rest false is found = rw is (rest (rw is at found))
 
+-- after a filter that drops what passes a test, nothing is found by it
 pub find_filtered : {X : Type 0} (test : X → Bool) (xs : List X) → find test (filter (λ x. not (test x)) xs) ≡ None
 find_filtered test [] = refl
 find_filtered test (y ∷ ys) = by_test (find_filtered test ys) (test y) refl
@@ -54,6 +57,7 @@ find_filtered test (y ∷ ys) = by_test (find_filtered test ys) (test y) refl
     by_test rest true is = rw is rest
     by_test rest false is = rw (is, is) rest
 
+-- a filter leaves what another test finds, if no dropped element passes that one
 pub find_unfiltered : {X : Type 0} (test other : X → Bool) → ((x : X) → test x ≡ true → other x ≡ false) → (xs : List X)
     → find other (filter (λ x. not (test x)) xs) ≡ find other xs
 find_unfiltered test other apart [] = refl

@@ -15,10 +15,12 @@ use Rattle.bag_ledger.proofs.Lookups.{find_changed, find_other, find_filtered, f
 pub apart : (id other : UnitId) → same_unit id other ≡ false → (x : UnitId) → same_unit x id ≡ true → same_unit x other ≡ false
 apart id other differ x is = rw (same_unit_is x id is) differ
 
+-- a unit that is moved is found at its new place
 pub moved_here : (b : Bag) (id : UnitId) (place : UnitPlace) (u : Placed) → unit_of b id ≡ Some u
     → unit_of (moved id place b) id ≡ Some (record u { place = place })
 moved_here b id place u e = find_changed (λ u. record u { place = place }) (λ u. same_unit u.unit.id id) (λ u. refl) b.units u e
 
+-- moving one unit leaves the others
 pub moved_other : (b : Bag) (id other : UnitId) (place : UnitPlace) → same_unit id other ≡ false
     → unit_of (moved id place b) other ≡ unit_of b other
 moved_other b id other place differ =
@@ -50,6 +52,7 @@ moved_is b id x place u v there now = by_test (same_unit id x) refl
         inl (same, sym (some_is (sym (moved_here b id place u there) ∙ found)))
     by_test false is = inr (is, sym (moved_other b id x place is) ∙ now)
 
+-- taking one unit's promise away leaves those of the others
 pub unpromised_other : (b : Bag) (id x : UnitId) → same_unit id x ≡ false → promise_of (unpromised id b) x ≡ promise_of b x
 unpromised_other b id x differ =
     find_unfiltered (λ p. same_unit p.id id) (λ p. same_unit p.id x) (λ p is. apart id x differ p.id is) b.promises

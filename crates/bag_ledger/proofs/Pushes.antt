@@ -8,6 +8,7 @@ use Rattle.bag_ledger.specs.Bag.{Bag, charge, promise_of}
 use Rattle.bag_ledger.proofs.Tests.{IsTest, has_is, three, four, same_number, same_server_is, same_server_from, none_is, free_is}
 use Rattle.bag_ledger.proofs.Tests.{travelling_is, server_is, server_from}
 
+-- the test of Promised says where it is legal
 pub promised_test : (b : Bag) (server : Server) (id : UnitId) (n : ℕ) → IsTest b (Promised server id n)
 promised_test b server id n = (
   λ e. let u = has_is _ _ e in
@@ -25,6 +26,7 @@ promised_test b server id n = (
   λ s. rw (s.1, eq-eqb (length s.0.unit.body) n s.2, server_from b server s.3, s.4, s.5, s.6) (le-leb (charge b server + n) b.limit s.7),
 )
 
+-- the test of Left says where it is legal
 pub left_test : (b : Bag) (server to : Server) (id : UnitId) → IsTest b (Left server to id)
 left_test b server to id = (
   λ e. let t = four _ _ _ _ e in
@@ -34,6 +36,7 @@ left_test b server to id = (
   λ s. rw (s.2.0, s.2.1, same_number server.0, server_from b server s.3, server_from b to s.4, s.5) (same_server_from s.1.server to s.6),
 )
 
+-- the test of Arrived says where it is legal
 pub arrived_test : (b : Bag) (server : Server) (id : UnitId) → IsTest b (Arrived server id)
 arrived_test b server id = (
   λ e. let t = and_parts _ _ e in
@@ -42,6 +45,7 @@ arrived_test b server id = (
   λ s. rw (s.1.0, s.1.1, same_number server.0) (server_from b server s.2),
 )
 
+-- the test of Withdrawn says where it is legal
 pub withdrawn_test : (b : Bag) (server : Server) (id : UnitId) → IsTest b (Withdrawn server id)
 withdrawn_test b server id = (
   λ e. let t = three _ _ _ e in

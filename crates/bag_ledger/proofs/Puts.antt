@@ -12,11 +12,13 @@ use Rattle.bag_ledger.specs.Bag.{Bag, charge}
 use Rattle.bag_ledger.specs.Step.{anything}
 use Rattle.bag_ledger.proofs.Tests.{IsTest, has_is, four, same_number, putting_is, begins_is, begins_from, server_is, server_from}
 
+-- the test of Putting says where it is legal
 pub putting_test : (b : Bag) (rank : Rank) (call : ℕ) (kind : WorkType) (prio : ℤ) (target : Target) (answer : Option Rank) (body : List ℕ)
     → IsTest b (Putting rank call kind prio target answer body)
 putting_test b rank call kind prio target answer body =
     (λ e. let s = begins_is b rank call anything e in (s.0, s.1), λ s. begins_from b rank call anything s.0 s.1 refl)
 
+-- the test of Refused says where it is legal
 pub refused_test : (b : Bag) (server : Server) (id : UnitId) (used : ℕ) → IsTest b (Refused server id used)
 refused_test b server id used = (
   λ e. let s = has_is _ _ e in
@@ -43,6 +45,7 @@ refused_test b server id used = (
   ) refl,
 )
 
+-- the test of Accepted says where it is legal
 pub accepted_test : (b : Bag) (server : Server) (id : UnitId) → IsTest b (Accepted server id)
 accepted_test b server id = (
   λ e. let s = has_is _ _ e in
@@ -67,6 +70,7 @@ accepted_test b server id = (
   ) refl,
 )
 
+-- the test of Rejected says where it is legal
 pub rejected_test : (b : Bag) (rank : Rank) (call : ℕ) → IsTest b (Rejected rank call)
 rejected_test b rank call = (
   λ e. let s = has_is _ _ e in

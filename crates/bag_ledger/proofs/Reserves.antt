@@ -11,14 +11,17 @@ use Rattle.bag_ledger.specs.Bag.{Bag}
 use Rattle.bag_ledger.specs.Step.{anything}
 use Rattle.bag_ledger.proofs.Tests.{IsTest, has_is, three, same_number, free_is, trying_is, begins_is, begins_from, server_is, server_from}
 
+-- the test of Asked says where it is legal
 pub asked_test : (b : Bag) (rank : Rank) (call : ℕ) (types : Option (List WorkType)) → IsTest b (Asked rank call types)
 asked_test b rank call types =
     (λ e. let s = begins_is b rank call anything e in (s.0, s.1), λ s. begins_from b rank call anything s.0 s.1 refl)
 
+-- the test of Tried says where it is legal
 pub tried_test : (b : Bag) (rank : Rank) (call : ℕ) (types : Option (List WorkType)) → IsTest b (Tried rank call types)
 tried_test b rank call types =
     (λ e. let s = begins_is b rank call anything e in (s.0, s.1), λ s. begins_from b rank call anything s.0 s.1 refl)
 
+-- the test of Granted says where it is legal
 pub granted_test : (b : Bag) (server : Server) (rank : Rank) (call : ℕ) (id : UnitId) → IsTest b (Granted server rank call id)
 granted_test b server rank call id = (
   λ e. let s = has_is _ _ e in
@@ -38,6 +41,7 @@ granted_test b server rank call id = (
   λ s. rw (s.3, s.4, same_number call, server_from b server s.5, s.6.0, s.6.1, same_number server.0) s.7,
 )
 
+-- the test of Looked says where it is legal
 pub looked_test : (b : Bag) (server : Server) (rank : Rank) (call : ℕ) → IsTest b (Looked server rank call)
 looked_test b server rank call = (
   λ e. let s = has_is _ _ e in
@@ -53,6 +57,7 @@ looked_test b server rank call = (
   λ s. rw (s.2, s.3, same_number call, server_from b server s.4, s.5) refl,
 )
 
+-- the test of NoCurrent says where it is legal
 pub no_current_test : (b : Bag) (rank : Rank) (call : ℕ) → IsTest b (NoCurrent rank call)
 no_current_test b rank call = (
   λ e. let s = has_is _ _ e in

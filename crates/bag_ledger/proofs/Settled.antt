@@ -64,6 +64,7 @@ no_promise : (promises : List Promise) → (length promises == 0) ≡ true → p
 no_promise [] e = refl
 no_promise (p ∷ ps) e = absurd (let none = eqb-true (length (p ∷ ps)) 0 e in omega arith)
 
+-- a bag that passes the test is settled
 pub settled_is : (b : Bag) → settled b ≡ true → IsSettled b
 settled_is b e =
     let s = and_parts _ (none_fits b.units 0 b.ranks) e in
@@ -78,6 +79,7 @@ settled_is b e =
       λ rank r is. let place : 0 + rank.0 ≡ rank.0 = omega arith in rw place at (no_fit b.units 0 b.ranks s.1 rank.0 r is),
     )
 
+-- a settled bag passes the test
 pub is_settled : (b : Bag) → IsSettled b → settled b ≡ true
 is_settled b s =
     let all = all_from (λ (r : RankState). is_asking_or_finished r.status) b.ranks (λ k r e. s.0 (numbered k) r e) in

@@ -26,6 +26,7 @@ use Rattle.bag_ledger.proofs.Charge.{unit_put}
 
 -- A change at a place.
 
+-- an element that is changed is found changed
 pub changed_here : {X : Type 0} (f : X → X) (place : ℕ) (xs : List X) (x : X) → slice_get xs place ≡ Some x
     → slice_get (change_at f place xs) place ≡ Some (f x)
 changed_here f place [] x e = absurd (cc)
@@ -168,6 +169,7 @@ shared_ranks : (common : Option CommonRef) (b : Bag) → (shared common b).ranks
 shared_ranks None b = refl
 shared_ranks (Some common) b = refl
 
+-- taking a unit off a server leaves the ranks
 pub taken_ranks : (server : Server) (o : Option Unit) (b : Bag) → (taken server o b).ranks ≡ b.ranks
 taken_ranks server None b = refl
 taken_ranks server (Some u) b = shared_ranks u.common (record b { units = _ })

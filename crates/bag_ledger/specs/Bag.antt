@@ -65,9 +65,11 @@ rank_at b rank = slice_get b.ranks rank.0
 abbrev pub unit_of : Bag → UnitId → Option Placed
 unit_of b id = find (λ u. same_unit u.unit.id id) b.units
 
+-- the part of a batch
 abbrev pub part_of : Bag → BatchId → Option Part
 part_of b batch = find (λ p. same_batch p.batch batch) b.parts
 
+-- the promise for a unit
 abbrev pub promise_of : Bag → UnitId → Option Promise
 promise_of b id = find (λ p. same_unit p.id id) b.promises
 
@@ -100,9 +102,11 @@ is_travelling _ = false
 abbrev pub unit_charge : Server → Placed → ℕ
 unit_charge server u = if is_placed_at server u.place then length u.unit.body else 0
 
+-- what a part takes at a server
 abbrev pub part_charge : Server → Part → ℕ
 part_charge server p = if (p.server.0 == server.0) && not p.freed then length p.common else 0
 
+-- what a promise takes at a server
 abbrev pub promise_charge : Server → Promise → ℕ
 promise_charge server p = if p.server.0 == server.0 then p.length else 0
 
@@ -119,6 +123,7 @@ abbrev pub putting : Status → Option Unit
 putting (does.Putting unit) = Some unit
 putting _ = None
 
+-- the call and the common bytes of a rank that begins a batch
 abbrev pub keeping : Status → Option (ℕ × List ℕ)
 keeping (does.Keeping call common) = Some (call, common)
 keeping _ = None
@@ -147,6 +152,7 @@ open_call _ = None
 abbrev pub has_declined : RankState → Server → Bool
 has_declined r server = list_any (λ s. s.0 == server.0) r.declined
 
+-- each server declined the rank's pending call
 abbrev pub all_declined : Bag → RankState → Bool
 all_declined b r = list_all (λ k. list_any (λ s. s.0 == k) r.declined) (range_with_len 0 b.servers)
 
@@ -170,6 +176,7 @@ abbrev pub is_asking : Status → Bool
 is_asking (does.Asking call types) = true
 is_asking _ = false
 
+-- the rank asks for a unit, or has finished
 abbrev pub is_asking_or_finished : Status → Bool
 is_asking_or_finished (does.Asking call types) = true
 is_asking_or_finished does.Finished = true

@@ -27,6 +27,7 @@ abbrev pub IsRunWhere : (Bag → Bool) → Bag → List Entry → Bag → Type 0
 IsRunWhere found b [] last = b ≡ last
 IsRunWhere found b (e ∷ es) last = (next : Bag) × StepsWhere found b e next × IsRunWhere found next es last
 
+-- entries lead from one bag to another, each by a legal step
 abbrev pub IsRun : Bag → List Entry → Bag → Type 0
 IsRun = IsRunWhere settled
 
@@ -45,6 +46,7 @@ abbrev pub first_after : (Bag → Option ℕ) → ℕ → Option Bag → Option 
 first_after later place None = Some place
 first_after later place (Some next) = later next
 
+-- the place of the first entry that is no step, counted from this one
 abbrev pub first_illegal : Bag → ℕ → List Entry → Option ℕ
 first_illegal b place [] = None
 first_illegal b place (e ∷ es) = first_after (λ next. first_illegal next (place + 1) es) place (step b e)

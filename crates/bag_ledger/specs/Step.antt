@@ -37,6 +37,7 @@ abbrev pub is_running : Status → Bool
 is_running does.Running = true
 is_running _ = false
 
+-- the rank ends its batch
 abbrev pub is_closing : Status → Bool
 is_closing (does.Closing call) = true
 is_closing _ = false
@@ -46,6 +47,7 @@ abbrev pub trying : Status → Option (ℕ × Option (List WorkType))
 trying (does.Trying call types) = Some (call, types)
 trying _ = None
 
+-- the call and the type of a rank that counts
 abbrev pub counting : Status → Option (ℕ × WorkType)
 counting (does.Counting call kind) = Some (call, kind)
 counting _ = None
@@ -60,6 +62,7 @@ abbrev pub is_pinned_to : Rank → UnitPlace → Bool
 is_pinned_to rank (Pinned server to) = to.0 == rank.0
 is_pinned_to rank _ = false
 
+-- the place is pinned at the server to the rank
 abbrev pub is_pinned : Server → Rank → UnitPlace → Bool
 is_pinned server rank (Pinned at to) = (at.0 == server.0) && (to.0 == rank.0)
 is_pinned server rank _ = false
@@ -75,6 +78,7 @@ same_top None None = true
 same_top (Some a) (Some b) = int_eq a b
 same_top _ _ = false
 
+-- two counts of free units are equal
 abbrev pub same_info : Info → Info → Bool
 same_info a b = (a.free == b.free) && same_top a.top b.top && (a.at_top == b.at_top)
 
@@ -82,12 +86,15 @@ same_info a b = (a.free == b.free) && same_top a.top b.top && (a.at_top == b.at_
 abbrev pub begins : Bag → Rank → ℕ → (RankState → Bool) → Bool
 begins b rank call test = has (rank_at b rank) (λ r. is_running r.status && (r.next == call) && test r)
 
+-- the server is in the run
 abbrev pub is_server : Bag → Server → Bool
 is_server b server = nat_lt server.0 b.servers
 
+-- this number of bytes more is within the limit of the server
 abbrev pub fits : Bag → Server → ℕ → Bool
 fits b server n = nat_le (charge b server + n) b.limit
 
+-- the server keeps the part of the batch, which passes the test
 abbrev pub keeps : Bag → Server → BatchId → (Part → Bool) → Bool
 keeps b server batch test = is_server b server && has (part_of b batch) (λ p. (p.server.0 == server.0) && not p.freed && test p)
 

@@ -171,10 +171,11 @@ change_first f test (x ∷ xs) = if test x then f x ∷ xs else x ∷ change_fir
 abbrev pub with_rank : Rank → (RankState → RankState) → Bag → Bag
 with_rank rank f b = record b { ranks = change_at f rank.0 b.ranks }
 
+-- the bag with the part of a batch changed
 abbrev pub with_part : BatchId → (Part → Part) → Bag → Bag
 with_part batch f b = record b { parts = change_first f (λ p. same_batch p.batch batch) b.parts }
 
--- the unit stands at another place
+-- the unit is at another place
 abbrev pub moved : UnitId → UnitPlace → Bag → Bag
 moved id place b = record b { units = change_first (λ u. record u { place = place }) (λ u. same_unit u.unit.id id) b.units }
 
@@ -216,6 +217,7 @@ kept server batch (Some (call, common)) b =
     with_rank batch.rank (λ r. ended (record r { batch = Some (record { batch = batch; server = server; length = length common }) }))
     (record b { parts = b.parts ++ new_part server batch common ∷ [] })
 
+-- the rank with the own bytes of its fetch
 abbrev pub own_came : Status → Status
 own_came (does.Fetching call id own) = does.Fetching call id true
 own_came status = status
@@ -283,5 +285,6 @@ in_turn b e = is_freeing e || not (has_due b)
 abbrev pub StepsWhere : (Bag → Bool) → Bag → Entry → Bag → Type 0
 StepsWhere found b e next = IsTrue (in_turn b e) × LegalWhere found b e × (next ≡ after b e)
 
+-- a legal step from one bag to the next
 abbrev pub Steps : Bag → Entry → Bag → Type 0
 Steps = StepsWhere settled

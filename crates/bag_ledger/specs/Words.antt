@@ -21,14 +21,17 @@ abbrev pub puts : UnitId → Entry → Bool
 puts id (Putting rank call kind prio target answer body) = same_unit (record { rank = rank; number = call }) id
 puts id _ = false
 
+-- a server accepts the unit
 abbrev pub accepts : UnitId → Entry → Bool
 accepts id (Accepted server accepted) = same_unit accepted id
 accepts id _ = false
 
+-- a server grants the unit
 abbrev pub grants : UnitId → Entry → Bool
 grants id (Granted server rank call granted) = same_unit granted id
 grants id _ = false
 
+-- a server hands the unit over
 abbrev pub fetches : UnitId → Entry → Bool
 fetches id (Fetched server rank fetched) = same_unit fetched id
 fetches id _ = false
@@ -38,6 +41,7 @@ abbrev pub refuses : Server → Rank → ℕ → Entry → Bool
 refuses server rank call (Refused by id used) = (by.0 == server.0) && same_unit id (record { rank = rank; number = call })
 refuses server rank call _ = false
 
+-- the server looks for the rank's call in vain
 abbrev pub looks : Server → Rank → ℕ → Entry → Bool
 looks server rank call (Looked by for pending) = (by.0 == server.0) && (for.0 == rank.0) && (pending == call)
 looks server rank call _ = false

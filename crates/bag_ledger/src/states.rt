@@ -88,8 +88,8 @@ impl Servers {
     }
 }
 
-/// A rank: what it does, the servers that declined its pending call (refused what it brings, or looked in vain), the
-/// number of its next call, the batch that is going on, and the end that it was told last.
+/// A rank: what it does, the number of its next call, the batch that is going on, and the end that it was told last.
+/// A server declines a pending call if it refuses what it brings, or looks in vain.
 #[derive(Drop)]
 pub struct RankState {
     pub status: Status,

@@ -6,9 +6,11 @@ use Rattle.std.proofs.lemmas.Bool.Decides.{nat_tests}
 use Rattle.bag_ledger.proofs.Tests.{some_is}
 use Rattle.bag_tables.specs.Found.{IsFoundAt, IsAbsent}
 
+-- a search stops at a head that passes
 pub position_here : {X : Type 0} (test : X → Bool) (x : X) (xs : List X) → test x ≡ true → position test (x ∷ xs) ≡ Some 0
 position_here test x xs is = rw is (grind (arith, common_steps, nat_tests))
 
+-- a search goes past a head that fails
 pub position_later : {X : Type 0} (test : X → Bool) (x : X) (xs : List X) → test x ≡ false
     → position test (x ∷ xs) ≡ option_map (λ n. n + 1) (position test xs)
 position_later test x xs is = rw is (grind (arith, common_steps, nat_tests))
@@ -21,6 +23,7 @@ later test x xs n fails r = record {
   changed = λ f. rw fails (ap (λ l. x ∷ l) (r.changed f));
 }
 
+-- where a search stops, the element passes and none before it does
 pub found_at : {X : Type 0} (test : X → Bool) (xs : List X) (place : ℕ) → position test xs ≡ Some place → IsFoundAt test xs place
 found_at test [] place e = absurd (cc)
 found_at test (x ∷ xs) place e = by_test (found_at test xs) (test x) refl
@@ -38,6 +41,7 @@ found_at test (x ∷ xs) place e = by_test (found_at test xs) (test x) refl
         rw (← same) (record { inside = omega arith; found = λ d. rw is refl; changed = λ f. rw is refl })
     by_test rest false is = further rest is (position test xs) refl (sym (position_later test x xs is) ∙ e)
 
+-- if a search finds nothing, no element passes
 pub absent : {X : Type 0} (test : X → Bool) (xs : List X) → position test xs ≡ None → IsAbsent test xs
 absent test [] e = record { found = refl; changed = λ f. refl }
 absent test (x ∷ xs) e = by_test (absent test xs) (test x) refl

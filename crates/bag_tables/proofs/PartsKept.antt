@@ -22,6 +22,7 @@ use Rattle.bag_tables.specs.Keeping.{PartsAreKept, kept_at, part_weight, part_si
 use Rattle.bag_tables.proofs.Placing.{position_push, position_changed}
 use Rattle.bag_tables.proofs.Summing.{summed_push, summed_change, summed_holds, summed_fits, sum_changed_at, bytes_low}
 
+-- what a part weighs on a server is its bytes where it is kept
 pub weight_is : (k : ℕ) (p : Part) → part_weight k p ≡ bytes_at (kept_at p) k (length p.common)
 weight_is k p = by_test p.freed refl (p.server.0 == k) refl
   where
@@ -32,6 +33,7 @@ weight_is k p = by_test p.freed refl (p.server.0 == k) refl
     by_test false is true there = rw (is, there) refl
     by_test false is false there = rw (is, there) refl
 
+-- a part weighs at most its bytes
 pub weight_low : (k : ℕ) (p : Part) → part_weight k p ≤ part_size p
 weight_low k p = omega (arith, weight_is k p, bytes_low (kept_at p) k (length p.common))
 
@@ -47,11 +49,13 @@ batch_stays Freed batch p = refl
 batch_stays Accepted batch p = refl
 batch_stays Fetched batch p = refl
 
+-- parts are kept over places that find the same
 pub parts_same : (places again : Places) (charges : Charges) (due : ℕ) (parts : List Part) → PartsAreKept places charges due parts
     → ((r n : ℕ) → place_at again r n ≡ place_at places r n) → PartsAreKept again charges due parts
 parts_same places again charges due parts kept same_place =
     record { placed = λ batch. same_place batch.rank.0 batch.number ∙ kept.placed batch; charged = kept.charged; counted = kept.counted }
 
+-- parts are kept with one part more
 pub parts_added : (places noted : Places) (charges raised : Charges) (due more : ℕ) (parts : List Part) (part : Part) (at n : ℕ)
     → PartsAreKept places charges due parts → at ≡ length parts → n ≡ length part.common → n < 2 ^ 64
     → ((r m : ℕ) → place_at noted r m ≡ option_or (place_at places r m)
@@ -67,10 +71,12 @@ parts_added places noted charges raised due more parts part at n kept last long 
   counted = omega (arith, counts, kept.counted, sum_by_push (λ p. cond (is_due p) 1 0) parts part);
 }
 
+-- a charge has room for `n` bytes more
 pub charge_fits : (charges : Charges) (parts : List Part) (n : ℕ) → IsSummed part_weight part_size charges parts → length parts < 2 ^ 64
     → n < 2 ^ 64 → (k : ℕ) → k < 8 → charged_at charges k + n < 2 ^ 128
 charge_fits charges parts n is few short = summed_fits part_weight part_size charges parts n is weight_low few short
 
+-- the server that keeps a part is charged at least its bytes
 pub charge_holds : (charges : Charges) (parts : List Part) (at : ℕ) (p : Part) (n : ℕ) → IsSummed part_weight part_size charges parts
     → at < length parts → slice_index_or parts at p ≡ p → n ≡ length p.common → (k : ℕ) → k < 8
     → bytes_at (kept_at p) k n ≤ charged_at charges k
@@ -78,6 +84,7 @@ charge_holds charges parts at p n is inside here long k within =
     let held = rw here at (summed_holds part_weight part_size charges parts at p is inside k within) in
     rw (long, ← weight_is k p) held
 
+-- charges are sums of parts after one of them changes
 pub charge_changed : (charges shifted : Charges) (parts : List Part) (at : ℕ) (p : Part) (change : PartChange) (n : ℕ)
     → IsSummed part_weight part_size charges parts → at < length parts → slice_index_or parts at p ≡ p → n ≡ length p.common
     → ((k : ℕ) → k < 8 → charged_at shifted k + bytes_at (kept_at p) k n ≡ charged_at charges k + bytes_at (kept_at (part_changed change p))
@@ -94,6 +101,7 @@ charge_changed charges shifted parts at p change n is inside here long shifts =
       ap (bytes_at (kept_at (part_changed change p)) k) (long ∙ sym (size_stays change p)),
     )))
 
+-- the count of parts that are due after one of them changes
 pub due_changed : (due more : ℕ) (parts : List Part) (at : ℕ) (p : Part) (change : PartChange) → due ≡ count_by is_due parts
     → at < length parts → slice_index_or parts at p ≡ p → more + (if is_due p then 1 else 0)
     ≡ due + (if is_due (part_changed change p) then 1 else 0) → more ≡ count_by is_due (change_at (part_changed change) at parts)
@@ -102,6 +110,7 @@ due_changed due more parts at p change counted inside here counts =
     let sums = rw here at (sum_changed_at f (part_changed change) parts at p inside) in
     omega (arith, counts, counted, sums)
 
+-- parts are kept after one of them changes
 pub parts_changed : (places : Places) (charges : Charges) (due : ℕ) (parts new : List Part) (at : ℕ) (change : PartChange)
     → ((batch : BatchId) → place_at places batch.rank.0 batch.number ≡ position (λ p. same_batch p.batch batch) parts)
     → new ≡ change_at (part_changed change) at parts → IsSummed part_weight part_size charges new → due ≡ count_by is_due new

@@ -1,4 +1,4 @@
--- Where the first element that passes stands after a push and a change.
+-- Where the first element that passes is after a push and a change.
 use Rattle.std.proofs.Common.{◌≡◌, ◌∙◌, sym, ℕ, zero, suc, ◌+◌, Bool, true, false, List, [], ◌∷◌, ◌++◌, length, Option, Some, None, refl}
 use Rattle.std.proofs.Common.{ap, arith}
 use Rattle.std.specs.Prelude.{position, option_map, if◌then◌else◌}
@@ -12,6 +12,7 @@ next_or (Some m) n b = refl
 next_or None n true = ap Some (omega arith)
 next_or None n false = refl
 
+-- after a push the first that passes is where it was, or is the new one
 pub position_push : {X : Type 0} (test : X → Bool) (xs : List X) (x : X)
     → position test (xs ++ x ∷ []) ≡ option_or (position test xs) (if test x then Some (length xs) else None)
 position_push test [] x = by_test (test x) refl
@@ -28,6 +29,7 @@ position_push test (y ∷ ys) x = by_test (position_push test ys x) (test y) ref
     by_test rest false is =
         rw (position_later test y (ys ++ x ∷ []) is, position_later test y ys is, rest) (next_or (position test ys) (length ys) (test x))
 
+-- a change that keeps the test keeps the place of the first that passes
 pub position_changed : {X : Type 0} (test : X → Bool) (f : X → X) → ((x : X) → test (f x) ≡ test x) → (n : ℕ) (xs : List X)
     → position test (change_at f n xs) ≡ position test xs
 position_changed test f keeps n [] = refl

@@ -71,7 +71,7 @@ none_counted test (p ∷ ps) none = by_test (none_counted test ps) (test p) refl
     by_test rest false is = let later : find test ps ≡ None = rw is at none in
         omega (arith, rest later, count_first test p ps, counts_not (test p) is)
 
--- the promise of the unit stands in this slot, and what it is to empty it
+-- the promise of the unit is in this slot, and what it is to empty it
 pub record IsSlot (id : UnitId) (slots : List (Option Promise)) (at : ℕ) : Type 0 where
   pub inside : at < length slots
   pub here : (d : Option Promise) → slice_index_or slots at d ≡ find (of_unit id) (standing slots)
@@ -126,6 +126,7 @@ in_front id p slots is = record {
     rest : count_by (of_unit id) (p ∷ standing slots) ≤ 1 → count_by (of_unit id) (standing slots) ≡ 0
     rest few = omega (arith, few, count_first (of_unit id) p (standing slots), counts_one (same_unit p.id id) is)
 
+-- the slot at which a search stops has the promise
 pub slot_found : (id : UnitId) (slots : List (Option Promise)) (at : ℕ) → position (is_promised id) slots ≡ Some at → IsSlot id slots at
 slot_found id [] at e = absurd (cc)
 slot_found id (None ∷ slots) at e =
@@ -179,15 +180,18 @@ slot_absent id (Some p ∷ slots) e = by_test (slot_absent id slots) (same_unit 
     by_test rest false is =
         further rest is (position (is_promised id) slots) refl (sym (position_later (is_promised id) (Some p) slots is) ∙ e)
 
+-- removing a promise that is not there changes nothing
 pub absent_stays : (id : UnitId) (slots : List (Option Promise)) → find (of_unit id) (standing slots) ≡ None
     → filter (λ p. not (of_unit id p)) (standing slots) ≡ standing slots
 absent_stays id slots none = none_filtered (of_unit id) (standing slots) (none_counted (of_unit id) (standing slots) none)
 
+-- a slot that is pushed adds its promise
 pub standing_push : (slots : List (Option Promise)) (p : Promise) → standing (slots ++ Some p ∷ []) ≡ standing slots ++ p ∷ []
 standing_push [] p = refl
 standing_push (None ∷ slots) p = standing_push slots p
 standing_push (Some q ∷ slots) p = ap (λ l. q ∷ l) (standing_push slots p)
 
+-- a server's charge over slots is its charge over promises
 pub sum_standing : (server : Server) (slots : List (Option Promise))
     → sum_by (slot_weight server.0) slots ≡ sum_by (promise_charge server) (standing slots)
 sum_standing server [] = refl
@@ -200,6 +204,7 @@ sum_standing server (Some p ∷ slots) =
       sum_standing server slots,
     )
 
+-- all slots are empty exactly if there is no promise
 pub all_empty : (slots : List (Option Promise)) → list_all (λ slot. is_none slot) slots ≡ (length (standing slots) == 0)
 all_empty [] = refl
 all_empty (None ∷ slots) = all_empty slots
@@ -207,11 +212,13 @@ all_empty (Some p ∷ slots) = sym (eqb-suc-zero (length (standing slots)))
 
 -- Promises that are kept stay so.
 
+-- promises are kept over places that find the same
 pub promises_same : (places again : Places) (charges : Charges) (slots : List (Option Promise)) → PromisesAreKept places charges slots
     → ((r n : ℕ) → place_at again r n ≡ place_at places r n) → PromisesAreKept again charges slots
 promises_same places again charges slots kept same_place =
     record { placed = λ id. same_place id.rank.0 id.number ∙ kept.placed id; alone = kept.alone; charged = kept.charged }
 
+-- promises are kept with one promise more
 pub promises_added : (places noted : Places) (charges raised : Charges) (slots : List (Option Promise)) (promise : Promise) (at : ℕ)
     → PromisesAreKept places charges slots → find (of_unit promise.id) (standing slots) ≡ None → at ≡ length slots → promise.length < 2 ^ 64
     → ((r m : ℕ) → place_at noted r m ≡ option_or (place_at places r m)
@@ -247,6 +254,7 @@ fewer test keep (p ∷ ps) = by_test (fewer test keep ps) (keep p) refl
     by_test rest true is = rw is (omega (arith, rest, count_first test p (filter keep ps), count_first test p ps))
     by_test rest false is = rw is (omega (arith, rest, count_first test p ps))
 
+-- promises are kept with one promise less
 pub promises_removed : (places left : Places) (charges lowered : Charges) (slots : List (Option Promise)) (id : UnitId) (at : ℕ)
     (promise : Promise) → PromisesAreKept places charges slots → IsSlot id slots at
     → ((d : Option Promise) → slice_index_or slots at d ≡ Some promise)
@@ -272,10 +280,12 @@ slot_low : (k : ℕ) (slot : Option Promise) → slot_weight k slot ≤ slot_siz
 slot_low k None = omega arith
 slot_low k (Some p) = bytes_low (Some p.server) k p.length
 
+-- a charge has room for `n` bytes more
 pub charge_fits : (charges : Charges) (slots : List (Option Promise)) (n : ℕ) → IsSummed slot_weight slot_size charges slots
     → length slots < 2 ^ 64 → n < 2 ^ 64 → (k : ℕ) → k < 8 → charged_at charges k + n < 2 ^ 128
 charge_fits charges slots n is few short = summed_fits slot_weight slot_size charges slots n is slot_low few short
 
+-- the server to which a promise is charged is charged at least its bytes
 pub charge_holds : (charges : Charges) (slots : List (Option Promise)) (at : ℕ) (promise : Promise)
     → IsSummed slot_weight slot_size charges slots → at < length slots → ((d : Option Promise) → slice_index_or slots at d ≡ Some promise)
     → (k : ℕ) → k < 8 → bytes_at (Some promise.server) k promise.length ≤ charged_at charges k

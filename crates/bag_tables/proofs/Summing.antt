@@ -22,10 +22,12 @@ sum_changed_at f g (x ∷ xs) (suc place) d inside =
     let rest = sum_changed_at f g xs place d (omega (arith, inside)) in
     rw (sum_by-cons f x (change_at g place xs), sum_by-cons f x xs) (omega arith)
 
+-- charges of 0 are the sums over nothing
 pub summed_none : {X : Type 0} (weight : ℕ → X → ℕ) (size : X → ℕ) (charges : Charges) → ((k : ℕ) → charged_at charges k ≡ 0)
     → IsSummed weight size charges []
 summed_none weight size charges none = record { sums = λ k inside. none k; small = omega arith }
 
+-- charges are sums with one element more
 pub summed_push : {X : Type 0} (weight : ℕ → X → ℕ) (size : X → ℕ) (old new : Charges) (xs : List X) (x : X) → IsSummed weight size old xs
     → size x < 2 ^ 64 → ((k : ℕ) → k < 8 → charged_at new k ≡ charged_at old k + weight k x) → IsSummed weight size new (xs ++ x ∷ [])
 summed_push weight size old new xs x is short raised = record {
@@ -33,6 +35,7 @@ summed_push weight size old new xs x is short raised = record {
   small = let long = length-append xs (x ∷ []) in omega (arith, is.small, short, sum_by_push size xs x);
 }
 
+-- charges are sums after one element changes
 pub summed_change : {X : Type 0} (weight : ℕ → X → ℕ) (size : X → ℕ) (g : X → X) (old new : Charges) (xs : List X) (place : ℕ) (d : X)
     → IsSummed weight size old xs → place < length xs → size (g (slice_index_or xs place d)) ≤ size (slice_index_or xs place d)
     → ((k : ℕ) → k < 8 → charged_at new k + weight k (slice_index_or xs place d)
@@ -48,6 +51,7 @@ pub summed_holds : {X : Type 0} (weight : ℕ → X → ℕ) (size : X → ℕ) 
 summed_holds weight size charges xs place d is inside k within =
     omega (arith, is.sums k within, get_or-le-sum_by (weight k) xs place d inside)
 
+-- a charge has room for `n` bytes more
 pub summed_fits : {X : Type 0} (weight : ℕ → X → ℕ) (size : X → ℕ) (charges : Charges) (xs : List X) (n : ℕ)
     → IsSummed weight size charges xs → ((k : ℕ) (x : X) → weight k x ≤ size x) → length xs < 2 ^ 64 → n < 2 ^ 64 → (k : ℕ) → k < 8
     → charged_at charges k + n < 2 ^ 128

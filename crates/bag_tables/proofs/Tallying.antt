@@ -35,10 +35,12 @@ ones_low cmp key_of q (x ∷ xs) =
     omega (arith, sum_by-cons f x xs, one_low cmp (key_of x) q, ones_low cmp key_of q xs)
 
 module _ {K X : Type 0} (cmp : K → K → Ordering) (key_of : X → Option K) where
+  -- a tally that is not shifted counts the same list
   pub tally_same : (old new : Tally K) (xs : List X) → IsTallyOf cmp key_of old xs → IsShifted cmp old new None None
       → IsTallyOf cmp key_of new xs
   tally_same old new xs is same = record { counts = λ q. omega (arith, is.counts q, same.counts q); tight = same.tight }
 
+  -- a tally counts a list with one element more
   pub tally_push : (old new : Tally K) (xs : List X) (x : X) → IsTallyOf cmp key_of old xs → IsShifted cmp old new None (key_of x)
       → IsTallyOf cmp key_of new (xs ++ x ∷ [])
   tally_push old new xs x is more = record {
@@ -46,6 +48,7 @@ module _ {K X : Type 0} (cmp : K → K → Ordering) (key_of : X → Option K) w
     tight = more.tight;
   }
 
+  -- a tally counts a list after one element changes
   pub tally_change : (g : X → X) (old new : Tally K) (xs : List X) (at : ℕ) (x : X) → IsTallyOf cmp key_of old xs → at < length xs
       → slice_index_or xs at x ≡ x → IsShifted cmp old new (key_of x) (key_of (g x)) → IsTallyOf cmp key_of new (change_at g at xs)
   tally_change g old new xs at x is inside here moved = record {
@@ -62,5 +65,6 @@ module _ {K X : Type 0} (cmp : K → K → Ordering) (key_of : X → Option K) w
       let held = rw here at (get_or-le-sum_by (λ y. one_at cmp (key_of y) q) xs at x inside) in
       omega (arith, is.counts q, held)
 
+  -- a tally of a list shorter than 2^63 has room for one more
   pub tally_fits : (tally : Tally K) (xs : List X) → IsTallyOf cmp key_of tally xs → length xs < 2 ^ 63 → HasRoom cmp tally
   tally_fits tally xs is few = λ q. omega (arith, is.counts q, ones_low cmp key_of q xs)

@@ -167,6 +167,7 @@ told_of info (p ∷ ps) (Some top) is free told =
     reached (inl is) = counted_here _ (p ∷ ps) (0, omega arith, sym is)
     reached (inr at) = counted_here _ (p ∷ ps) (at.0 + 1, omega (arith, at.1), rw add-one at.2)
 
+-- what the counts say of a server and type is the info of its free units
 pub info_told : (free : FreeCounts) (units : List Placed) → IsCounted free units → (server : Server) (kind : WorkType) (info : Info)
     → IsTold free server kind info
     → info ≡ info_of_prios (map (λ u. u.unit.prio) (filter (λ u. is_free_at server u.place && (u.unit.kind.0 == kind.0)) units))

@@ -17,19 +17,21 @@ use Rattle.bag_tables.specs.Counted.{HasNoTop, IsTop, prio_count}
 tied : (n : ℕ) → nat_cmp n n ≡ Equal
 tied n = tied_itself nat_cmp_total n
 
--- each priority stands after none
+-- each priority comes after none
 after_none : (s k : ℕ) (prio : ℤ) → IsLtBy by_prio (s, k, None) (s, k, Some (record { 0 = prio }))
 after_none s k prio = rw (tied s, tied k) refl
 
--- what stands after the one and not after the other has the parts that are the same in both
+-- what comes after the one and not after the other has the parts that are the same in both
 same_parts : (s k a o : ℕ) (x y : Ordering) → ordering_then (ordering_then (nat_cmp s a) (nat_cmp k o)) x ≡ Less
     → is_gt (ordering_then (ordering_then (nat_cmp a s) (nat_cmp o k)) y) ≡ false → (a ≡ s) × (o ≡ k)
 same_parts s k a o x y after upto = (grind (arith, nat_tests), grind (arith, nat_tests))
 
+-- if no key comes after a server and type, they have no highest priority
 pub none_after : (free : FreeCounts) (server : Server) (kind : WorkType) → IsNoneAfter by_prio free.prios (server.0, kind.0, None)
     → HasNoTop free server kind
 none_after free server kind none = λ prio. none (server.0, kind.0, Some (record { 0 = prio })) (after_none server.0 kind.0 prio)
 
+-- if the next key is of another server or type, they have no highest priority
 pub none_here : (free : FreeCounts) (server : Server) (kind : WorkType) (a o : ℕ) (t : Option (Reverse ℤ)) (n : ℕ)
     → IsFirstAfter by_prio free.prios (server.0, kind.0, None) ((a, o, t), n) → (a ≡ server.0 → o ≡ kind.0 → ⊥) → HasNoTop free server kind
 none_here free server kind a o t n first apart = λ prio.
@@ -42,6 +44,7 @@ none_here free server kind a o t n first apart = λ prio.
         let same = same_parts server.0 kind.0 a o _ _ first.after least in
         absurd (apart same.0 same.1)
 
+-- if the next key is of the server and type, it has their highest priority
 pub top_here : (free : FreeCounts) (server : Server) (kind : WorkType) (a o : ℕ) (top : ℤ) (n : ℕ)
     → IsFirstAfter by_prio free.prios (server.0, kind.0, None) ((a, o, Some (record { 0 = top })), n) → a ≡ server.0 → o ≡ kind.0
     → IsTop free server kind (top, n)

@@ -23,6 +23,7 @@ use Rattle.bag_tables.proofs.Tallying.{tally_change, tally_fits, tally_holds, ta
 use Rattle.bag_tables.proofs.Placing.{position_push, position_changed}
 use Rattle.bag_tables.proofs.Summing.{summed_none, summed_push, summed_change, summed_holds, summed_fits, bytes_low}
 
+-- what a unit weighs on a server is its bytes where it is held
 pub weight_is : (k : ℕ) (u : Placed) → unit_weight k u ≡ bytes_at (held_at u.place) k (length u.unit.body)
 weight_is k u = by_place u.place refl
   where
@@ -32,9 +33,11 @@ weight_is k u = by_place u.place refl
     by_place (Pinned server rank) is = rw is refl
     by_place Spent is = rw is refl
 
+-- a unit weighs at most its bytes
 pub weight_low : (k : ℕ) (u : Placed) → unit_weight k u ≤ unit_size u
 weight_low k u = omega (arith, weight_is k u, bytes_low (held_at u.place) k (length u.unit.body))
 
+-- at the start no unit is kept
 pub units_none : (places : Places) (charges : Charges) (free : FreeCounts) → ((r n : ℕ) → place_at places r n ≡ None)
     → ((k : ℕ) → charged_at charges k ≡ 0) → IsCounted free [] → UnitsAreKept places charges free []
 units_none places charges free no_place no_charge no_count = record {
@@ -64,6 +67,7 @@ counted_more free more units unit server is raised =
       prios = tally_push by_prio (free_key prio_of) free.prios more.prios units u is.prios raised.prios;
     }
 
+-- units are kept with one unit more
 pub units_added : (places noted : Places) (charges raised : Charges) (free more : FreeCounts) (units : List Placed) (unit : Unit)
     (server : Server) (at n : ℕ) → UnitsAreKept places charges free units → at ≡ length units → n ≡ length unit.body → n < 2 ^ 64
     → ((r m : ℕ) → place_at noted r m ≡ option_or (place_at places r m)
@@ -84,6 +88,7 @@ units_added places noted charges raised free more units unit server at n kept la
 abbrev pub to_place : UnitPlace → Placed → Placed
 to_place place u = record u { place = place }
 
+-- charges are sums of units after one of them moves
 pub charge_moved : (charges shifted : Charges) (units : List Placed) (at : ℕ) (u : Placed) (place : UnitPlace) (n : ℕ)
     → IsSummed unit_weight unit_size charges units → at < length units → slice_index_or units at u ≡ u → n ≡ length u.unit.body
     → ((k : ℕ) → k < 8 → charged_at shifted k + bytes_at (held_at u.place) k n ≡ charged_at charges k + bytes_at (held_at place) k n)
@@ -92,6 +97,7 @@ charge_moved charges shifted units at u place n is inside here long shifts =
     summed_change unit_weight unit_size (to_place place) charges shifted units at u is inside (omega arith)
     (λ k within. rw here (rw (weight_is k u, weight_is k (to_place place u), ← long) (shifts k within)))
 
+-- free counts are those of the units after one of them moves
 pub count_moved : (free moved : FreeCounts) (units : List Placed) (at : ℕ) (u : Placed) (place : UnitPlace) → IsCounted free units
     → at < length units → slice_index_or units at u ≡ u → AreShifted free moved (free_server u.place) (free_server place) u.unit
     → IsCounted moved (change_at (to_place place) at units)
@@ -104,6 +110,7 @@ count_moved free moved units at u place is inside here shifts = record {
   prios = tally_change by_prio (free_key prio_of) (to_place place) free.prios moved.prios units at u is.prios inside here shifts.prios;
 }
 
+-- the server that holds a unit is charged at least its bytes
 pub charge_holds : (charges : Charges) (units : List Placed) (at : ℕ) (u : Placed) (n : ℕ) → IsSummed unit_weight unit_size charges units
     → at < length units → slice_index_or units at u ≡ u → n ≡ length u.unit.body → (k : ℕ) → k < 8
     → bytes_at (held_at u.place) k n ≤ charged_at charges k
@@ -111,14 +118,17 @@ charge_holds charges units at u n is inside here long k within =
     let held = rw here at (summed_holds unit_weight unit_size charges units at u is inside k within) in
     rw (long, ← weight_is k u) held
 
+-- a charge has room for `n` bytes more
 pub charge_fits : (charges : Charges) (units : List Placed) (n : ℕ) → IsSummed unit_weight unit_size charges units → length units < 2 ^ 64
     → n < 2 ^ 64 → (k : ℕ) → k < 8 → charged_at charges k + n < 2 ^ 128
 charge_fits charges units n is few short = summed_fits unit_weight unit_size charges units n is weight_low few short
 
+-- free counts have no key that counts nothing
 pub count_tight : (free : FreeCounts) (units : List Placed) → IsCounted free units → AreTight free
 count_tight free units is =
     record { shelves = is.shelves.tight; targets = is.targets.tight; kinds = is.kinds.tight; prios = is.prios.tight }
 
+-- a free unit is among the counts
 pub count_holds : (free : FreeCounts) (units : List Placed) (at : ℕ) (u : Placed) → IsCounted free units → at < length units
     → slice_index_or units at u ≡ u → AreHeld free (free_server u.place) u.unit
 count_holds free units at u is inside here = record {
@@ -128,6 +138,7 @@ count_holds free units at u is inside here = record {
   prios = tally_holds by_prio (free_key prio_of) free.prios units at u is.prios inside here;
 }
 
+-- the counts have room for one unit more
 pub count_fits : (free : FreeCounts) (units : List Placed) → IsCounted free units → length units < 2 ^ 63 → HaveRoom free
 count_fits free units is few = record {
   shelves = tally_fits by_shelf (free_key shelf_of) free.shelves units is.shelves few;
@@ -136,12 +147,14 @@ count_fits free units is few = record {
   prios = tally_fits by_prio (free_key prio_of) free.prios units is.prios few;
 }
 
+-- a unit that moves is found at the index where it was
 pub placed_moved : (places : Places) (units : List Placed) (at : ℕ) (place : UnitPlace)
     → ((id : UnitId) → place_at places id.rank.0 id.number ≡ position (λ u. same_unit u.unit.id id) units) → (id : UnitId)
     → place_at places id.rank.0 id.number ≡ position (λ u. same_unit u.unit.id id) (change_at (to_place place) at units)
 placed_moved places units at place placed id =
     placed id ∙ sym (position_changed (λ u. same_unit u.unit.id id) (to_place place) (λ u. refl) at units)
 
+-- units are kept after one of them moves
 pub units_moved : {T E : Type 0} (places : Places) (charges : Charges) (free : FreeCounts) (units new : List Placed) (at : ℕ)
     (place : UnitPlace) (result : Result T E)
     → ((id : UnitId) → place_at places id.rank.0 id.number ≡ position (λ u. same_unit u.unit.id id) units)

@@ -9,6 +9,7 @@ use Rattle.bag_tables.specs.declared.changes.RankChange.TheVariants.{Begins, Put
 use Rattle.bag_tables.specs.declared.changes.PartChange.{PartChange}
 use Rattle.bag_tables.specs.declared.changes.PartChange.TheVariants.{Closed, Freed, Accepted, Fetched}
 
+-- what a change makes of a rank
 abbrev pub rank_changed : RankChange → RankState → RankState
 rank_changed (Begins status) r = begun status r
 rank_changed (Puts unit) r = begun (does.Putting (record unit { common = r.batch })) r
@@ -18,6 +19,7 @@ rank_changed (GoesOn batch) r = ended (record r { batch = batch })
 rank_changed (Told end) r = ended (record r { end = Some end })
 rank_changed (OwnCame common) r = own_fetched common r
 
+-- what a change makes of a common part
 abbrev pub part_changed : PartChange → Part → Part
 part_changed Closed p = record p { closed = true }
 part_changed Freed p = record p { freed = true }

@@ -2,7 +2,7 @@
 use Rattle.std.specs.Prelude.{ℕ, ◌<◌, ◌≡◌, Bool, List, find, length, Some, None, slice_index_or}
 use Rattle.bag_ledger.specs.Steps.{change_at, change_first}
 
--- the first element that passes the test stands at this place
+-- the first element that passes the test is at this place
 pub record IsFoundAt {X : Type 0} (test : X → Bool) (xs : List X) (place : ℕ) : Type 0 where
   pub inside : place < length xs
   pub found : (d : X) → find test xs ≡ Some (slice_index_or xs place d)

@@ -30,6 +30,7 @@ kept_at p = if p.freed then None else Some p.server
 abbrev pub unit_weight : ℕ → Placed → ℕ
 unit_weight k u = unit_charge (record { 0 = k }) u
 
+-- the bytes of a unit
 abbrev pub unit_size : Placed → ℕ
 unit_size u = length u.unit.body
 
@@ -43,6 +44,7 @@ pub record UnitsAreKept (places : Places) (charges : Charges) (free : FreeCounts
 abbrev pub part_weight : ℕ → Part → ℕ
 part_weight k p = part_charge (record { 0 = k }) p
 
+-- the bytes of a common part
 abbrev pub part_size : Part → ℕ
 part_size p = length p.common
 

@@ -22,12 +22,15 @@ only_of (Soft rank) = None
 abbrev pub shelf_of : Server → Unit → ℕ × ℕ × Option ℕ
 shelf_of server unit = (server.0, unit.kind.0, only_of unit.target)
 
+-- a free unit's key by its target
 abbrev pub target_of : Server → Unit → ℕ × Option ℕ
 target_of server unit = (server.0, only_of unit.target)
 
+-- its key by its type
 abbrev pub kind_of : Server → Unit → ℕ × ℕ
 kind_of server unit = (server.0, unit.kind.0)
 
+-- its key by its type and priority, the highest first
 abbrev pub prio_of : Server → Unit → ℕ × ℕ × Option (Reverse ℤ)
 prio_of server unit = (server.0, unit.kind.0, Some (record { 0 = unit.prio }))
 
@@ -35,12 +38,15 @@ prio_of server unit = (server.0, unit.kind.0, Some (record { 0 = unit.prio }))
 abbrev pub by_shelf : ℕ × ℕ × Option ℕ → ℕ × ℕ × Option ℕ → Ordering
 by_shelf a b = ordering_then (ordering_then (nat_cmp a.0 b.0) (nat_cmp a.1 b.1)) (option_cmp nat_cmp a.2 b.2)
 
+-- the order of keys by target
 abbrev pub by_target : ℕ × Option ℕ → ℕ × Option ℕ → Ordering
 by_target a b = ordering_then (nat_cmp a.0 b.0) (option_cmp nat_cmp a.1 b.1)
 
+-- the order of keys by type
 abbrev pub by_kind : ℕ × ℕ → ℕ × ℕ → Ordering
 by_kind a b = ordering_then (nat_cmp a.0 b.0) (nat_cmp a.1 b.1)
 
+-- the order of keys by type and priority
 abbrev pub by_prio : ℕ × ℕ × Option (Reverse ℤ) → ℕ × ℕ × Option (Reverse ℤ) → Ordering
 by_prio a b = ordering_then (ordering_then (nat_cmp a.0 b.0) (nat_cmp a.1 b.1)) (option_cmp (λ x y. int_cmp y.0 x.0) a.2 b.2)
 

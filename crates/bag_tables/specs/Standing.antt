@@ -25,6 +25,7 @@ abbrev pub slot_weight : ℕ → Option Promise → ℕ
 slot_weight k None = 0
 slot_weight k (Some p) = promise_charge (record { 0 = k }) p
 
+-- the bytes that a slot promises
 abbrev pub slot_size : Option Promise → ℕ
 slot_size None = 0
 slot_size (Some p) = p.length

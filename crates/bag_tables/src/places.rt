@@ -1,4 +1,4 @@
-//! Where things stand in a list, by their ids.
+//! Where things are in a list, by their ids.
 
 ghost use Rattle.std.specs.Prelude.{◌≡◌, ◌==◌, ◌&&◌, ℕ, OnOk, OnErr, Some, None, if◌then◌else◌};
 ghost use Rattle.std.specs.Option.{option_or};

@@ -98,7 +98,7 @@ impl Units {
         Ok(())
     }
 
-    /// The unit of this id, if it was accepted, stands at this place now. Its only error is `NoMemory`.
+    /// The unit of this id, if it was accepted, is at this place now. Its only error is `NoMemory`.
     pub fn move_to(&mut self, id: UnitId, place: UnitPlace) -> Result<(), NoMemory>
         ensures { OnOk result (self.new ≡ change_first (λ u. record u { place = place }) (λ u. same_unit u.unit.id id) self.old) }
     {
@@ -170,7 +170,7 @@ fn free_server(place: UnitPlace) -> Option<Server>
     }
 }
 
-// The unit here stands at this place now.
+// The unit here is at this place now.
 fn put_at(units: &mut Vec<Placed>, at: usize, place: UnitPlace)
     requires { at < length units.old.items }
     ensures { units.new.items ≡ change_at (λ u. record u { place = place }) at units.old.items }
@@ -179,7 +179,7 @@ fn put_at(units: &mut Vec<Placed>, at: usize, place: UnitPlace)
     unit.place = place;
 }
 
-// The unit here stands at this place now, and the charges and the counts say so.
+// The unit here is at this place now, and the charges and the counts say so.
 fn move_at(
     units: &mut Vec<Placed>,
     charges: &mut Charges,

@@ -190,7 +190,7 @@ idle_kept n b last e es rank now h silent idle calling batch =
     silent_kept n b last e es rank now h (of_none rank (says b e) silent) (of_none rank (accepted b e) idle.0)
     (of_none rank (granted b e) idle.1) (of_none rank (fetched b e) idle.2) calling batch
 
--- an entry that passes a rank by leaves where it stands
+-- an entry that passes a rank by leaves where it is
 pub away_kept : (n : ℕ) (b last : Bag) (e : Entry) (es : List Entry) (rank : Rank) (r : RankState) (h : Hand) → IsEntered n b last e es
     → IsAway b e rank → h.batch ≡ bytes_in last r.batch → IsCalling n b rank r h (along says b (e ∷ es) rank)
     → IsKept n b last e es rank r h
@@ -543,7 +543,7 @@ told_turn n b last e es rank was now h entered here batch t (finishes heard idle
       tally = rw mine (finish_adds last b e rank h t.nothing t.owes idle);
     }
 
--- an entry that is a rank's turn leads to where it stands next
+-- an entry that is a rank's turn leads to where it is next
 pub turn_kept : (n : ℕ) (b last : Bag) (e : Entry) (es : List Entry) (rank : Rank) (was now : RankState) (h : Hand)
     → IsEntered n b last e es → Is b rank was → Is (after b e) rank now → h.batch ≡ bytes_in last was.batch
     → IsCalling n b rank was h (along says b (e ∷ es) rank) → Deed b e rank was now → IsKept n b last e es rank now h

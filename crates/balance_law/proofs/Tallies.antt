@@ -37,8 +37,7 @@ use Rattle.balance_law.proofs.Deeds.{put_by, is_fetch, IsIdle, IsNotFine, Bytes,
 use Rattle.balance_law.proofs.Deeds.{fetched}
 use Rattle.balance_law.proofs.Seen.{of_none, of_mine}
 
--- what a rank has in hand: the note that it holds, the common bytes of the batch that is going on, and the unit whose own bytes have
--- come and whose common bytes have not
+-- What a rank has in hand: the note that it holds, the common bytes of its batch, and a unit of which it has the own bytes alone.
 pub record Hand : Type 0 where
   pub held : Option UnitNote
   pub batch : Option (List ℕ)
@@ -239,8 +238,8 @@ coming_held b e rank was now note owed id u held same c =
 
 -- What an answered call adds.
 
--- what holds of the rank whose call is answered: it stands so in a sound bag, the common bytes in hand are those of what it puts, and
--- those of a part are the same in the end
+-- What holds of the rank whose call is answered: a sound bag has it so, and the common bytes in hand are those of what it puts. Those of a
+-- part are the same in the end.
 pub record IsAnswering (b last : Bag) (rank : Rank) (r : RankState) (h : Hand) (call : Call) : Type 0 where
   pub sound : IsSoundBag b
   pub there : Is b rank r

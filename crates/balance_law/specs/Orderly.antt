@@ -27,9 +27,11 @@ IsNext ranks None batch calls_to.EndBatch = (common : List ℕ) × (batch ≡ So
 IsNext ranks (Some note) batch (calls_to.Fetch id) = id ≡ note.id
 IsNext ranks held batch call = ⊥
 
+-- a batch that was ended
 abbrev pub end_batch : Said
 end_batch = record { call = calls_to.EndBatch; answer = answers.Fine }
 
+-- a Finish that was answered
 abbrev pub finish : Said
 finish = record { call = calls_to.Finish; answer = answers.Fine }
 

@@ -10,8 +10,8 @@ use Rattle.bag_ledger.specs.declared.entries.Call.{Call}
 use Rattle.bag_ledger.specs.declared.entries.Call.TheVariants as calls_to
 use Rattle.bag_ledger.specs.declared.entries.Said.{Said}
 
--- what whoever gets a unit sees of it: the work type, the priority, the answer rank, the common bytes if it was put in a batch, the
--- length of its own bytes that its note tells, and its own bytes
+-- What whoever gets a unit sees of it: its work type, priority, answer rank and own bytes, with their length that its note names. If it was
+-- put in a batch, it sees the common bytes too.
 pub record Parcel : Type 0 where
   pub kind : WorkType
   pub prio : ℤ
@@ -32,6 +32,7 @@ parcel_sent batch (calls_to.Put kind prio target answer body) answers.Fine =
     record { kind = kind; prio = prio; answer = answer; common = batch; long = length body; own = body } ∷ []
 parcel_sent batch call answer = []
 
+-- what a transcript sends
 unfoldable pub sent : Option (List ℕ) → List Said → List Parcel
 sent batch [] = []
 sent batch (s ∷ said) = parcel_sent batch s.call s.answer ++ sent (batch_after batch s.call s.answer) said
@@ -46,6 +47,7 @@ abbrev pub common_of : Option CommonRef → List ℕ → Option (List ℕ)
 common_of None body = None
 common_of (Some part) body = Some (take part.length body)
 
+-- the own bytes of a fetch
 abbrev pub own_of : Option CommonRef → List ℕ → List ℕ
 own_of None body = body
 own_of (Some part) body = drop part.length body
@@ -66,6 +68,7 @@ abbrev pub parcel_got : Option UnitNote → Call → Answer → List Parcel
 parcel_got (Some note) (calls_to.Fetch id) (answers.Body body) = parcel_read note body ∷ []
 parcel_got held call answer = []
 
+-- what a transcript gets
 unfoldable pub got : Option UnitNote → List Said → List Parcel
 got held [] = []
 got held (s ∷ said) = parcel_got held s.call s.answer ++ got (granted_note s.answer) said

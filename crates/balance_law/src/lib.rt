@@ -2,8 +2,8 @@
 //! common part is freed, and nothing is left. What was got was sent before, and what is put for one rank alone is got by that rank.
 //!
 //! It speaks of definitions alone and has no code. `specs/Parcels.antt` says what the calls of a rank send and get,
-//! `specs/Orderly.antt` which ranks are orderly, `specs/Balanced.antt` what is so at the end, and `specs/Ways.antt` where what ranks
-//! get comes from.
+//! and `specs/Orderly.antt` which ranks are orderly. `specs/Balanced.antt` says what is so at the end, and
+//! `specs/Ways.antt` where what ranks get comes from.
 #![tactic(auto)]
 
 ghost use Rattle.std.specs.Prelude.{◌<◌, ℕ, List, ◌++◌};

@@ -25,7 +25,7 @@ queue common = record { units = []; promises = []; common = common; arrivals = 0
 abbrev alone : Store
 alone = (batch 1 7, fresh (97 ∷ [])) ∷ []
 
--- parts stand in the order of their batches
+-- parts are in the order of their batches
 in_order : both ≡ (batch 0 5, fresh xyz) ∷ alone
 in_order = refl
 

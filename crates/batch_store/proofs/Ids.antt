@@ -16,15 +16,19 @@ at_id a b r n = grind (arith, nat_tests)
 pub at_batch : (a b : BatchId) → is_at (by_batch a) b ≡ same_batch a b
 at_batch a b = at_id a.rank.0 a.number b.rank.0 b.number
 
+-- a lesser id is another id
 pub less_apart : (a b : BatchId) → by_batch a b ≡ Less → same_batch a b ≡ false
 less_apart a b is = sym (at_batch a b) ∙ ap is_eq is
 
+-- ids that are equal in the order pass their test
 pub equal_same : (a b : BatchId) → by_batch a b ≡ Equal → same_batch a b ≡ true
 equal_same a b is = sym (at_batch a b) ∙ ap is_eq is
 
+-- a greater id is another id
 pub greater_apart : (a b : BatchId) → by_batch a b ≡ Greater → same_batch a b ≡ false
 greater_apart a b is = sym (at_batch a b) ∙ ap is_eq is
 
+-- an id passes its test with itself
 pub same_itself : (a : BatchId) → same_batch a a ≡ true
 same_itself a = same_batch_from a a refl
 

@@ -76,6 +76,7 @@ turned_here f (e ∷ store) batch = by_same (same_batch batch e.0) refl (turned_
     by_same true is later = rw is refl
     by_same false is later = rw is later
 
+-- a change of one part leaves the others
 pub turned_apart : (f : Part → Part) (store : Store) (batch b : BatchId) → same_batch b batch ≡ false
     → part_in (with_turned store batch f) b ≡ part_in store b
 turned_apart f [] batch b apart = refl
@@ -103,6 +104,7 @@ changed_here f store batch = by_part (part_in store batch) (in_without store bat
         by_due true = gone
         by_due false = there
 
+-- the part of a batch after a change of one: that one changed and kept, every other as before
 pub in_changed : (f : Part → Part) (store : Store) (batch b : BatchId)
     → part_in (changed f store batch) b ≡ cond (same_batch b batch) (option_and_then (λ p. kept (f p)) (part_in store batch))
     (part_in store b)

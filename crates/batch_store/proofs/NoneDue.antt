@@ -11,6 +11,7 @@ use Rattle.batch_store.specs.declared.parts.Part.{Part}
 abbrev IsNotDue : Part → Type 0
 IsNotDue p = IsFalse (is_due p)
 
+-- no part is due with a fresh one
 pub fresh_due : (store : Store) (batch : BatchId) (bytes : List ℕ) → HasNoneDue store → HasNoneDue (with_fresh store batch bytes)
 fresh_due store batch bytes none b p found = by_same (same_batch b batch) (sym (in_inserted store batch b (fresh bytes)) ∙ found)
   where
@@ -18,6 +19,7 @@ fresh_due store batch bytes none b p found = by_same (same_batch b batch) (sym (
     by_same true e = subst IsNotDue (same_Some (fresh bytes) p e) refl
     by_same false e = none b p e
 
+-- no part is due after a change of one, since a part that is due goes
 pub changed_due : (f : Part → Part) (store : Store) (batch : BatchId) → HasNoneDue store → HasNoneDue (changed f store batch)
 changed_due f store batch none b p found = by_same (same_batch b batch) (sym (in_changed f store batch b) ∙ found)
   where

@@ -17,6 +17,7 @@ use Rattle.batch_store.specs.declared.parts.Part.{Part}
 abbrev IsLow : Part → Type 0
 IsLow p = length p.bytes ≤ body_limit
 
+-- parts are small with one more that is
 pub small_inserted : (store : Store) (batch : BatchId) (q : Part) → IsSmall store → length q.bytes ≤ body_limit
     → IsSmall (insert_entry by_batch store batch q)
 small_inserted store batch q small low b p found = by_same (same_batch b batch) (sym (in_inserted store batch b q) ∙ found)
@@ -25,6 +26,7 @@ small_inserted store batch q small low b p found = by_same (same_batch b batch) 
     by_same true e = subst IsLow (same_Some q p e) low
     by_same false e = small b p e
 
+-- parts are small without one
 pub small_without : (store : Store) (batch : BatchId) → IsSmall store → IsSmall (without store batch)
 small_without store batch small b p found = by_same (same_batch b batch) (sym (in_without store batch b) ∙ found)
   where
@@ -32,6 +34,7 @@ small_without store batch small b p found = by_same (same_batch b batch) (sym (i
     by_same true e = absurd (none-some p e)
     by_same false e = small b p e
 
+-- parts are small after a change that keeps a part small
 pub small_turned : (f : Part → Part) → ((p : Part) → IsLow p → IsLow (f p)) → (store : Store) (batch : BatchId) → IsSmall store
     → IsSmall (with_turned store batch f)
 small_turned f keeps store batch small b p found = by_same (same_batch b batch) refl
@@ -50,6 +53,7 @@ pub either_way : {T E : Type 0} {A B G : Type 0} (r : Result T E) → OnOk r A �
 either_way (Ok x) ok err f g = f ok
 either_way (Err e) ok err f g = g err
 
+-- two facts of a success and two of a failure, joined to one conclusion
 pub either_way_of_two : {T E : Type 0} {A B C D G : Type 0} (r : Result T E) → OnOk r A → OnOk r B → OnErr r C → OnErr r D → (A → B → G)
     → (C → D → G) → G
 either_way_of_two (Ok x) a b c d f g = f a b

@@ -59,6 +59,7 @@ with_fresh store batch bytes = insert_entry by_batch store batch (fresh bytes)
 abbrev pub is_other : BatchId → BatchId × Part → Bool
 is_other batch e = not (same_batch batch e.0)
 
+-- the store without the part of a batch
 abbrev pub without : Store → BatchId → Store
 without store batch = filter (is_other batch) store
 
@@ -66,6 +67,7 @@ without store batch = filter (is_other batch) store
 abbrev pub turned : BatchId → (Part → Part) → BatchId × Part → BatchId × Part
 turned batch f e = if same_batch batch e.0 then (e.0, f e.1) else e
 
+-- the store with the part of a batch changed
 abbrev pub with_turned : Store → BatchId → (Part → Part) → Store
 with_turned store batch f = map (turned batch f) store
 

@@ -1,8 +1,8 @@
 //! The top call, from words and bytes to what is written.
 //!
-//! It holds tests alone, in a crate of their own so that `adlb_command` is not proved again with them. They are the worked rows in
-//! line and with threads, bad input, other commands, faults outside, lists of solutions made by another solver, least tours beside a
-//! search of all orders, flows, and what is said of each fault.
+//! It holds tests alone, in a crate of their own so that `adlb_command` is not proved again with them. They are the
+//! worked rows in line and with threads, bad input, other commands, flows, faults outside, and what is said of each fault.
+//! Solutions are compared with those of another solver, and least tours with a search of all orders.
 #![tactic(auto)]
 
 #[cfg(test)]

@@ -1,4 +1,4 @@
-//! What is told of a run while it goes on.
+//! What a run says while it goes on.
 
 use crate::runs::run_gated;
 use crate::tables::{TWO, TWO_SOLVED};

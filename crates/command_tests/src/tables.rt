@@ -34,7 +34,7 @@ pub const TWO: &str =
 const ROW: &str =
     ".........672195348198342567859761423426853791713924856961537284287419635345286179";
 
-/// The solution with a digit that stands twice in its column.
+/// The solution with a digit that is twice in its column.
 const CLASH: &str =
     "634678912672195348198342567859761423426853791713924856961537284287419635345286179";
 

@@ -194,7 +194,7 @@ impl Map {
         Ok(best)
     }
 
-    // What is to be told of these cities.
+    // What is to be said of these cities.
     fn told(&self, alloc: Global) -> Result<String, Fail> {
         let tour = self.best(alloc)?;
         let count = self.count as u64;

@@ -29,10 +29,12 @@ use Rattle.clap.specs.declared.parser.matches.MatchedArg.{MatchedArg}
 use Rattle.command_words.specs.inside.{HoldsIn, HoldsMade, HoldsRun, HoldsSizes}
 use Rattle.command_words.specs.Ranges.{budgets, counts, grains, limits, rank_counts, seeds, server_counts}
 
+-- an option is parsed as a number between these
 abbrev pub is_parser : ℕ → ℕ → Option ValueParser → Bool
 is_parser low high (Some (Unsigned a b)) = a == low && b == high
 is_parser low high _ = false
 
+-- a rule lets the option of this name take a number between these alone
 abbrev pub takes_number : Text → ℕ → ℕ → Rule → Bool
 takes_number id low high r = not (bytes_eq r.id id) || is_parser low high r.parser
 
@@ -65,8 +67,8 @@ name_no_group [] h j d lt = absurd (omega arith)
 name_no_group (x ∷ xs) h zero d lt = groups_none x (both _ _ h).0
 name_no_group (x ∷ xs) h (suc j) d lt = name_no_group xs (both _ _ h).1 j d (omega arith)
 
--- the command is simple, each of its rules of this name takes a number from `low` to `high`, and the name is neither empty nor that
--- of a flag of `clap`'s own
+-- The command is simple, and each of its rules of this name takes a number from `low` to `high`. The name is neither empty nor that of a
+-- flag of `clap`'s own.
 abbrev pub names : App → Text → ℕ → ℕ → Bool
 names app id low high = has_simple_rules app.top && (list_all (takes_number id low high) app.top.rules
     && (not (bytes_eq (codes "help") id) && (not (bytes_eq (codes "version") id) && not (is_empty id))))
@@ -194,6 +196,7 @@ module _ (app : App) (old : Command) (m : ArgMatches) (p : IsParsedFrom old m) (
 
 -- the numbers of a command are in their ranges, where it takes them so
 module _ (app : App) (old : Command) (m : ArgMatches) (p : IsParsedFrom old m) (same_app : app_of old ≡ app) where
+  -- a parse of `make` gives numbers within their limits
   pub made_holds : names app (codes "count") counts.low counts.high ≡ true → names app (codes "seed") seeds.low seeds.high ≡ true
       → HoldsMade (rows_of (found_of m))
   made_holds count seed = record {
@@ -201,6 +204,7 @@ module _ (app : App) (old : Command) (m : ArgMatches) (p : IsParsedFrom old m) (
     seed = number_holds app old m p same_app (codes "seed") seeds.low seeds.high (named app _ _ _ seed);
   }
 
+  -- a parse gives numbers of ranks, servers and bytes within their limits
   pub sizes_hold : names app (codes "ranks") rank_counts.low rank_counts.high ≡ true
       → names app (codes "servers") server_counts.low server_counts.high ≡ true
       → names app (codes "limit") limits.low limits.high ≡ true → HoldsSizes (rows_of (found_of m))
@@ -210,6 +214,7 @@ module _ (app : App) (old : Command) (m : ArgMatches) (p : IsParsedFrom old m) (
     limit = number_holds app old m p same_app (codes "limit") limits.low limits.high (named app _ _ _ limit);
   }
 
+  -- a parse of a run gives all its numbers within their limits
   pub run_holds : names app (codes "ranks") rank_counts.low rank_counts.high ≡ true
       → names app (codes "servers") server_counts.low server_counts.high ≡ true
       → names app (codes "limit") limits.low limits.high ≡ true → names app (codes "budget") budgets.low budgets.high ≡ true

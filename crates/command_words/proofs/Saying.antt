@@ -32,6 +32,7 @@ faults_say_nothing app says words some = go (fault_of app words) refl
     go [] none = absurd (some none)
     go (kind ∷ kinds) is = refl
 
+-- words that are refused say no command
 pub refused_says_nothing : (app given : App) (says : List Row → Command) (words : List Text) (fault : WordsFault) → given ≡ app
     → (fault ≡ Usage → fault_of given words ≢ []) → fault ≡ Usage → read_by app says words ≡ None
 refused_says_nothing app given says words fault same refused usage =
@@ -41,9 +42,11 @@ refused_says_nothing app given says words fault same refused usage =
 pub reads_solve : (word : Text) (rest : List Text) → word ≡ codes "solve" → command_of (word ∷ rest) ≡ read_by solve_app solve_of rest
 reads_solve word rest is = rw is refl
 
+-- words after `drill` are read as those of `drill`
 pub reads_drill : (word : Text) (rest : List Text) → word ≡ codes "drill" → command_of (word ∷ rest) ≡ read_by drill_app drill_of rest
 reads_drill word rest is = rw is refl
 
+-- words after `tour` are read as those of `tour`
 pub reads_tour : (word : Text) (rest : List Text) → word ≡ codes "tour" → command_of (word ∷ rest) ≡ read_by tour_app tour_of rest
 reads_tour word rest is = rw is refl
 
@@ -67,6 +70,7 @@ pub rest_says : (app : App) (says : List Row → Command) (all rest : List Text)
 rest_says app says all rest word (Ok c) said reads is = ap command_of is ∙ reads ∙ said
 rest_says app says all rest word (Err fault) said reads is = tt
 
+-- if the words after the first are refused, all words say no command
 pub rest_says_nothing : (app : App) (says : List Row → Command) (all rest : List Text) (word : Text) (result : Result Command WordsFault)
     → IfErr result (λ f. f ≡ Usage → read_by app says rest ≡ None) → command_of (word ∷ rest) ≡ read_by app says rest → all ≡ word ∷ rest
     → IfErr result (λ f. f ≡ Usage → command_of all ≡ None)

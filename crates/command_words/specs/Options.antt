@@ -5,7 +5,7 @@ use Rattle.clap.specs.declared.builder.ArgAction.TheVariants.{Set, SetTrue}
 use Rattle.clap.specs.declared.builder.ValueParser.TheVariants.{Bool, Unsigned}
 use Rattle.command_words.specs.Ranges.{budgets, counts, grains, limits, rank_counts, seeds, server_counts}
 
--- a number from `low` to `high` that stands alone, and has to be given
+-- a number from `low` to `high` by itself, which has to be given
 abbrev pub number_rule : Text → ℕ → ℕ → Rule
 number_rule name low high = record (new_rule name) {
   action = Some Set;
@@ -63,25 +63,31 @@ with_manner a = with_rule (with_rule a (flag_rule (codes "inline"))) (flag_rule 
 abbrev pub with_run : App → App
 with_run a = with_manner (with_work (with_sizes a))
 
+-- the options of `solve`
 abbrev pub solve_app : App
 solve_app = with_rule
     (with_rule (with_run (bare (codes "solve"))) (flag_rule (codes "stats")))
     (flag_rule (codes "ledger"))
 
+-- the options of `check`
 abbrev pub check_app : App
 check_app = bare (codes "check")
 
+-- the options of `make`
 abbrev pub make_app : App
 make_app = with_made (bare (codes "make"))
 
+-- the options of `drill`
 abbrev pub drill_app : App
 drill_app = with_run (with_made (bare (codes "drill")))
 
+-- the options of `tour`
 abbrev pub tour_app : App
 tour_app = with_told_sizes (bare (codes "tour"))
 
 abbrev pub flow_app : App
 flow_app = with_told_sizes (bare (codes "flow"))
 
+-- the options of `draw`
 abbrev pub draw_app : App
 draw_app = bare (codes "draw")

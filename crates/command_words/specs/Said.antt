@@ -55,24 +55,29 @@ solve_of rows = Solve (record {
   ledger = flag_of (codes "ledger") rows;
 })
 
+-- `check`
 abbrev pub check_of : List Row → Command
 check_of rows = Check
 
+-- `make` with its numbers
 abbrev pub make_of : List Row → Command
 make_of rows = Make (number_of (codes "count") counts.default rows) (number_of (codes "seed") seeds.default rows)
 
+-- `drill` with its numbers and options
 abbrev pub drill_of : List Row → Command
 drill_of rows = Drill
     (number_of (codes "count") counts.default rows)
     (number_of (codes "seed") seeds.default rows)
     (run_of rows)
 
+-- `tour` with its options
 abbrev pub tour_of : List Row → Command
 tour_of rows = Tour (words_of rows)
 
 abbrev pub flow_of : List Row → Command
 flow_of rows = Flow (words_of rows)
 
+-- `draw`
 abbrev pub draw_of : List Row → Command
 draw_of rows = Draw
 
@@ -102,6 +107,7 @@ command_of (word ∷ words) =
 abbrev pub run_tells : RunOptions → Bool
 run_tells run = run.progress && not run.inline
 
+-- the command says how far its run is
 abbrev pub tells_progress : Command → Bool
 tells_progress (Solve words) = run_tells words.options
 tells_progress (Drill count seed run) = run_tells run
@@ -115,6 +121,7 @@ pub record AreWithin (sizes : Sizes) : Type 0 where
   pub servers : IsIn server_counts sizes.servers
   pub limit : InLimit sizes.limit
 
+-- the options of a run are within their ranges
 pub record IsRunWithin (run : RunOptions) : Type 0 where
   pub sizes : AreWithin run.sizes
   pub budget : IsIn budgets run.budget

@@ -6,6 +6,7 @@ use Rattle.core_run.specs.declared.events.Event.TheVariants as occurs
 use Rattle.core_run.specs.World.{World}
 use Rattle.core_law.specs.Measures.{weigh_at}
 
+-- 1 for the begin of a call
 abbrev pub is_call : Event → ℕ
 is_call (occurs.Call rank call) = 1
 is_call (occurs.Deliver from to) = 0

@@ -13,6 +13,7 @@ abbrev pub toll_of : Bool → ℕ
 toll_of true = 25
 toll_of false = 1
 
+-- what a letter pays for the activity that it raises
 abbrev pub toll : Message → ℕ
 toll m = toll_of (raises m)
 
@@ -22,6 +23,7 @@ allowance (Accepts unit) = 4900
 allowance (Arrives from unit) = 2400
 allowance _ = 0
 
+-- what an act costs
 abbrev pub cost : Act → ℕ
 cost (Hints wish) = 75
 cost (Queries to id length) = 2500

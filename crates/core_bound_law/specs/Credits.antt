@@ -19,6 +19,7 @@ use Rattle.core_law.specs.Letters.{no_rank, no_server}
 -- Of a check: a token has one for each server that it has still to visit, and at its last some for the letters of the end. The most
 -- is that of the first token.
 
+-- a token pays for the visits to come
 abbrev pub token_credit : ℕ → ℕ → ℕ
 token_credit wave from = if wave == 1 then 8 + (15 - from) else 8 + (7 - from)
 
@@ -26,30 +27,37 @@ token_credit wave from = if wave == 1 then 8 + (15 - from) else 8 + (7 - from)
 abbrev pub wanted : ℕ
 wanted = 23
 
+-- a server's notice
 abbrev pub unnoted : ℕ
 unnoted = 24
 
+-- activity that rises
 abbrev pub raising : ℕ
 raising = 25
 
 -- Of a rank that waits: a server that is still to be asked for it has the ask and the answer; a hint one such server besides. A unit
 -- that becomes free brings a hint for each rank at most.
 
+-- one server that is asked
 abbrev pub asking : ℕ
 asking = 50
 
+-- one hint
 abbrev pub hinting : ℕ
 hinting = 75
 
+-- a unit that becomes free
 abbrev pub freeing : ℕ
 freeing = 2400
 
 -- A push: its four letters, and the unit that becomes free where it comes. A put that is accepted: the unit becomes free, and a push
 -- begins.
 
+-- a push
 abbrev pub pushing : ℕ
 pushing = 2500
 
+-- a put that is accepted
 abbrev pub accepting : ℕ
 accepting = 4900
 
@@ -58,6 +66,7 @@ abbrev pub sender : Actor → ℕ
 sender (by.Server from) = from.0
 sender (by.Rank from) = 0
 
+-- what each letter pays for
 abbrev pub letter_credit : Actor → Message → ℕ
 letter_credit from (tells.Put unit) = 4926
 letter_credit from (tells.KeepCommon request common) = 4926
@@ -101,6 +110,7 @@ letter_credit from _ = 0
 abbrev pub asks_credit : List Server → ℕ
 asks_credit to_ask = weigh (λ (t : Server). 50) to_ask
 
+-- a rank that waits pays for the servers still to be asked
 abbrev pub waits_credit : Waiting → ℕ
 waits_credit e = 1 + asks_credit e.to_ask
 
@@ -108,6 +118,7 @@ waits_credit e = 1 + asks_credit e.to_ask
 abbrev pub debt_credit : Debt → ℕ
 debt_credit d = 25
 
+-- a number if the test passes, and otherwise 0
 abbrev pub if_so : Bool → ℕ → ℕ
 if_so true n = n
 if_so false n = 0
@@ -116,6 +127,7 @@ if_so false n = 0
 abbrev pub unfound_credit : ℕ → Bool → ℕ
 unfound_credit me exhausted = if_so ((me == 0) && not exhausted) 175
 
+-- what a server has left to pay with
 abbrev pub server_credit : ServerModel → ℕ
 server_credit s =
     if_so (not (is_noted s.kept.noted s.activity)) 24 + if_so s.kept.ring.wanted 23 + unfound_credit s.me.0 s.kept.exhausted
@@ -123,9 +135,11 @@ server_credit s =
 
 -- A rank: the letters to the servers that it has still to try, look at, or tell; and the common part that it has still to fetch.
 
+-- what the servers still to be tried cost
 abbrev pub tries_credit : ℕ → ℕ
 tries_credit tried = (7 - tried) * 26
 
+-- what a pending call has left to pay with
 abbrev pub pending_credit : Pending → ℕ
 pending_credit (waits_for.Put unit first tried) = tries_credit tried
 pending_credit (waits_for.Keep request common first tried) = tries_credit tried
@@ -136,6 +150,7 @@ pending_credit _ = 0
 
 -- A world.
 
+-- the credit of each letter, as weights
 abbrev pub letters_credit : Weights
 letters_credit = record {
   letter = λ from to m. letter_credit from m;
@@ -145,6 +160,7 @@ letters_credit = record {
   rank_due = no_rank;
 }
 
+-- what is left to pay with in a world
 unfoldable pub credit : World → ℕ
 credit w =
     links_weight w.config letters_credit w.links + weigh_at (λ i s. server_credit s) w.servers

@@ -151,6 +151,7 @@ module _ (w : World) (b : Bag) (k from : Server) (t : Token) (well : IsWell w) (
       by_place c there low (inl e) = none_here c e
       by_place c there low (inr differs) = old.none c there (let e = r in omega arith)
 
+  -- where a token goes on, what it says of the bag is so with one server more
   pub pass_settles : AreTold w → IsSettledBehind w b k t → IsSettledBehind (acted w k a) b (onward s) (token t.check 2 t.asked)
   pass_settles told was second un still = subst (λ (n : ℕ). IsSettling (acted w k a) b n t.asked) (sym on) next
     where

@@ -116,7 +116,7 @@ parked_of _ s quiet = absurd (cc)
 abbrev pub SaysNone : (Server → Token → Type 0) → Server → Act → ServerModel → Type 0
 SaysNone P k a s = Each (λ (y : ServerSaying). OnToken P (by.Server k) y.to y.message) (says a s)
 
--- an act that says no token says none of which this has to hold
+-- an act that says no token has nothing of which this has to hold
 pub said_none : (P : Server → Token → Type 0) (k : Server) (a : Act) (s : ServerModel) → says_token a ≡ false → SaysNone P k a s
 said_none P k (Accepts unit) s silent = (tt, tt)
 said_none P k (Refuses unit) s silent = (tt, tt)

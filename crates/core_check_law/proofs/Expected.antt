@@ -161,6 +161,7 @@ module _ (w : World) (from me : Server) (letter : Letter) (rest : List Letter) (
   check_awaited (tells.Failed t why) is of kind = failed_awaited t why is kind
   check_awaited _ is of kind = absurd (cc)
 
+  -- a letter of a check can be handled as long as its server has not ended
   pub check_handled : is_of_check letter.message ≡ true → letter.stamp < stamp_limit → has_ended s ≡ false
       → (next : World) × (handle w (by.Server from) (by.Server me) (letter ∷ rest) ≡ Some next)
   check_handled of small going =

@@ -1,5 +1,5 @@
--- What follows the first act of an event that leaves all that rests as it is, or by which the token goes on: no push begins, and where the
--- letter does not raise the activity, only acts of the ring.
+-- What follows a first act that leaves all that rests as it is, or by which the token goes on. No push begins, and if the letter does not
+-- raise the activity, only acts of the ring follow.
 use Rattle.std.proofs.Common.{◌≡◌, ◌≢◌, ◌==◌, ◌&&◌, ◌||◌, not, Bool, true, false, cond, List, [], ◌∷◌, ◌++◌, Option, None, Some, refl, sym}
 use Rattle.std.proofs.Common.{ap, ◌∙◌, subst}
 use Rattle.std.specs.Option.{option_map}

@@ -132,11 +132,13 @@ abbrev pub Behind : (World → Bag → Type 0) → World → Type 0
 Behind P w = (n : Bag) × Holds w n × P w n
 
 module _ (k : Server) where
+  -- with several servers no act of a run is the whole check of a server that is alone
   pub alone_not : (w : World) (a : Act) → IsWell w → 1 < w.config.servers → IsAct w k a → is_alone a ≡ false
   alone_not w a well several is =
       let own = well.own.servers k is.here in
       not_alone a (pool_of w k) is.sure (λ e. let c = ap (λ (x : Config). x.servers) own.config in absurd (omega arith))
 
+  -- tokens that say nothing of the bag say nothing through the acts that follow
   pub follow_voids : (list : List Act) (w : World) (b : Bag) → 1 < w.config.servers → Holds w b → TakeNone list → AreActs w k list
       → Voids w b
       → Behind Voids (acted_all w k list)
@@ -160,6 +162,7 @@ module _ (k : Server) where
   abbrev IsPast : World → Type 0
   IsPast v = (pool_of v k).kept.ring.mark < (pool_of v k).activity
 
+  -- what tokens say of the bag stays so through the acts that follow
   pub follow_settles : (up : Bool) (list : List Act) (w : World) (b : Bag) → 1 < w.config.servers → Holds w b → TakeNone list
       → AreActs w k list → Each (Suits up) list → (up ≡ true → IsPast w) → Settles w b
       → Behind Settles (acted_all w k list)

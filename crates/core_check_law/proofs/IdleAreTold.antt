@@ -274,6 +274,7 @@ module _ (s : ServerModel) (told : IsTold s) where
   by_none true = tt
   by_none false = tt
 
+  -- by each letter nobody becomes idle at a server that knows that the problem is done without being told
   pub settles_by : (from : Actor) (m : Message) → IfSome (rule s from m) (IsPlan s from m) → IfSome (rule s from m) (Settles s)
   settles_by (by.Rank from) (tells.Reserve request types) plan =
       when (runs_at_home s from) _

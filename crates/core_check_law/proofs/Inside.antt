@@ -1,4 +1,4 @@
--- Units that are free stand at servers of the run, and there are as many ranks in the bag as in the run.
+-- Units that are free are at servers of the run, and there are as many ranks in the bag as in the run.
 use Rattle.std.proofs.Common.{◌≡◌, ◌<◌, ℕ, Bool, true, false, cond, List, [], ◌∷◌, refl, sym, subst}
 use Rattle.adlb_unit.specs.Ids.{same_unit}
 use Rattle.adlb_unit.specs.declared.configs.Config.{Config}

@@ -31,7 +31,7 @@ pub has_there : {X : Type 0} (before : List X) (x : X) (behind : List X) → Has
 has_there [] x behind = inl refl
 has_there (y ∷ before) x behind = inr (has_there before x behind)
 
--- a list has what stands at its places
+-- a list has what is at its places
 pub has_at : {X : Type 0} (xs : List X) (i : ℕ) (x : X) → i < length xs → get_or xs i x ≡ x → Has xs x
 has_at [] i x inside is = absurd (omega arith)
 has_at (y ∷ ys) zero x inside is = inl is

@@ -76,6 +76,7 @@ module _ (w : World) (ranks : List ClientModel) (servers : List ServerModel) (li
 
   module _ (first : AreTestsAsWere (pool_of w zeroth).kept.ring (pool_of v zeroth).kept.ring)
       (same : (t : Server) → t.0 < w.config.servers → AreTestsAsWere (pool_of w t).kept.ring (pool_of v t).kept.ring) where
+    -- a token is on turn in a world whose rings are as before
     pub turn_stays : (to : Server) (t : Token) → IsOnTurn w to t → IsOnTurn v to t
     turn_stays to t on = record {
       wave = on.wave;
@@ -85,6 +86,7 @@ module _ (w : World) (ranks : List ClientModel) (servers : List ServerModel) (li
       tested = λ second. first.tested ∙ on.tested second;
     }
 
+    -- the number of the last check stays
     pub failed_stays : (t : Token) → t.check ≡ last_check w → t.check ≡ last_check v
     failed_stays t is = is ∙ sym first.check
 
@@ -364,6 +366,7 @@ module _ (w : World) (k : Server) (well : IsWell w) (ring : IsRinged w) (turn : 
       let alone : w.config.servers ≡ 1 = ap (λ (c : Config). c.servers) (sym pool.config) ∙ one in
       lone_turn a is (left_off a is (alone_is w.config k s is.here pool alone).1 (pool.alone alone)) says_token says_failed
 
+  -- tokens are on turn after each act
   pub act_turns : (a : Act) → IsAct w k a → AreOnTurn (acted w k a)
   act_turns Starts is =
       lone_turn Starts is (left_off Starts is (is.sure.0).zeroth (is.sure.0).alone) (start_turn is, tt) (tt, tt)

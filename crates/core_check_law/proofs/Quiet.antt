@@ -186,6 +186,7 @@ module _ (w : World) (b : Bag) (well : IsWell w) (l : IsLawful w b) (quiet : Are
       waiting : List Waiting
       waiting = (pool_of w (home w.config r)).kept.parked.waiting
 
+  -- where all servers are quiet, all rests
   pub quiet_rests : IsRest w b
   quiet_rests = record {
     promises = unmoved.0;

@@ -198,12 +198,14 @@ module _ (w : World) (b : Bag) (well : IsWell w) (r : Rank) (inside : r.0 < w.co
       by_rests (inl e) = let ended = client_ended w b r coming seat x.state x.here e in absurd (cc)
       by_rests (inr asks) = let pends = (client_asks w b r coming seat x.state x.here asks).1 in absurd (cc)
 
+  -- a rank at rest has no request under way
   pub asks_never : (k : Server) (l : Letter) (rest : List Letter) → k.0 < w.config.servers
       → link w.links (place_of w.config (by.Rank r)) (place_of w.config (by.Server k)) ≡ l ∷ rest → is_request l.message ≡ true → ⊥
   asks_never k l rest here front asks =
       letter_never (by.Rank r) (by.Server k) l rest (lt-ltb r.0 w.config.ranks inside) (lt-ltb k.0 w.config.servers here) front
       (rw (asks, eq-eqb r.0 r.0 refl) refl) refl
 
+  -- a rank at rest has no answer under way
   pub hears_never : (k : Server) (l : Letter) (rest : List Letter) → k.0 < w.config.servers
       → link w.links (place_of w.config (by.Server k)) (place_of w.config (by.Rank r)) ≡ l ∷ rest → ⊥
   hears_never k l rest here front =

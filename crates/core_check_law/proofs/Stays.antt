@@ -50,6 +50,7 @@ module _ (w : World) (ranks : List ClientModel) (servers : List ServerModel) (li
 
   module _ (first : IsMarked (pool_of w zeroth) (pool_of v zeroth))
       (same : (t : Server) → t.0 < w.config.servers → IsMarked (pool_of w t) (pool_of v t)) where
+    -- a token is right on its way in a world whose servers are steady
     pub way_stays : ((t : Server) → t.0 < w.config.servers → IsSteady (pool_of w t) (pool_of v t)) → (to : Server) (t : Token)
         → IsOnWay w to t → IsOnWay v to t
     way_stays steady to t on = record {
@@ -72,6 +73,7 @@ module _ (w : World) (ranks : List ClientModel) (servers : List ServerModel) (li
               was.1 ∙ sym (askers_same (pool_of w s).kept (pool_of v s).kept parked.waiting),
             )
 
+    -- servers have no number above the last check in the new world either
     pub numbers_stay : AreNumbered w → AreNumbered v
     numbers_stay are = record {
       numbers = λ s there.

@@ -75,6 +75,7 @@ module _ (w : World) (b n : Bag) (k : Server) (well : IsWell w) where
       (weaker NoToken (λ from to l. OnToken (IsVoid (acted w k a) n) from to l.message) w.config (taken_off w.config k w.links (takes a))
       (λ from to l z. not_token (IsVoid (acted w k a) n) from to l.message z) none) said
 
+  -- after the start of a check no token says anything of the bag
   pub starts_voids : IsAct w k Starts → IsBalanced tokens w → Voids (acted w k Starts) n
   starts_voids is even =
       let off = is.sure.0 in
@@ -101,6 +102,7 @@ module _ (w : World) (b n : Bag) (k : Server) (well : IsWell w) where
       (settling_stays w v.ranks v.servers v.links v.ledger b (reach w.config to) t.asked
       (as_was w k a well.shape is (still a s quiet)) settling)) on
 
+  -- after an act of no token, at a server that has changed since its mark, no token says anything of the bag
   pub other_voids : (a : Act) → IsAct w k a → IsLawful w b → Runs a → is_still a ≡ false → is_turn a ≡ false → is_alone a ≡ false
       → is_query a ≡ false → s.kept.ring.mark < s.activity → Settles w b → Voids (acted w k a) n
   other_voids a is l run stirs turn alone query more on =
@@ -110,6 +112,7 @@ module _ (w : World) (b n : Bag) (k : Server) (well : IsWell w) where
       let was_open = open_before (found_in w.config) b n (entries a s) run t.asked going in
       never w b k (reach w.config to) t.asked well l un_was was_open (was second un_was was_open) a is stirs turn alone query more) on
 
+  -- after a turn that does not go on no token says anything of the bag
   pub turns_void : (a : Act) → IsAct w k a → IsBalanced tokens w → is_turn a ≡ true → goes_on a ≡ false → Voids (acted w k a) n
   turns_void Starts is even turn other = starts_voids is even
   turns_void (Marks from t) is even turn other =

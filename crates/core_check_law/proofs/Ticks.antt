@@ -43,6 +43,7 @@ module _ (w : World) (me : Server) (stamp : ℕ) (up : Bool) (well : IsWell w) (
   abbrev next : World
   next = ticks w me stamp up
 
+  -- the stamp of an event changes nothing of a server but its activity, which rises by one at most
   pub after : (t : Server) → IsTicked (pool_of w t) (pool_of next t)
   after t = by_place (cases_eq t.0 me.0)
     where
@@ -97,6 +98,7 @@ module _ (w : World) (me : Server) (stamp : ℕ) (up : Bool) (well : IsWell w) (
       by_bridge s was =
           (ticked_quiet (pool_of w s) (pool_of next s) (after s) was.0, was.1 ∙ sym (ap (λ (x : Kept). askers x) (after s).kept))
 
+  -- after the stamp of an event the tokens are numbered, balanced and right on their links
   pub tick_ringed : IsRinged w → IsRinged next
   tick_ringed ring = record {
     numbered = record {

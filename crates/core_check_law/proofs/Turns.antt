@@ -118,18 +118,21 @@ module _ (w : World) (k : Server) (well : IsWell w) where
   some : (a : Act) → IsAct w k a → 0 < w.config.servers
   some a is = let h = is.here in omega arith
 
+  -- a token that goes on has reached one server more
   pub onward_is : k.0 < w.config.servers → reach w.config (onward s) ≡ k.0 + 1
   onward_is here =
       let own = well.own.servers k here in
       subst (λ (c : Config). reach w.config (behind c s.me 1) ≡ k.0 + 1) (sym own.config)
       (subst (λ (c : Server). reach w.config (behind w.config c 1) ≡ k.0 + 1) (sym own.me) (reach_onward w.config k here))
 
+  -- the server with number 0 is the first of the ring
   pub zeroth_here : k.0 < w.config.servers → s.me.0 ≡ 0 → k ≡ zeroth
   zeroth_here here e = ap server_named (ap (λ (x : Server). x.0) (sym (well.own.servers k here).me) ∙ e)
 
   other_here : k.0 < w.config.servers → s.me.0 ≢ 0 → k.0 ≢ 0
   other_here here other e = other (ap (λ (x : Server). x.0) (well.own.servers k here).me ∙ e)
 
+  -- the ranks that ask here have their home here
   pub own_homes : k.0 < w.config.servers → Each (λ (a : Asker). is_home w.config k a.0 ≡ true) (askers s.kept)
   own_homes here =
       homes_of w.config k s.kept.parked.waiting
@@ -461,6 +464,7 @@ module _ (w : World) (k : Server) (well : IsWell w) where
 
     -- Every act.
 
+    -- after each act of a step the tokens are numbered, balanced and right on their links
     pub act_ringed : (a : Act) → IsStep w k a → IsRinged (acted w k a)
     act_ringed Starts is =
         let off = subst (λ (c : Server). (pool_of w c).kept.ring.runs ≡ false) (start_zeroth is.act) ((is.act).sure.0).alone in

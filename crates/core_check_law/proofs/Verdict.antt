@@ -200,6 +200,7 @@ module _ (w : World) (b : Bag) (well : IsWell w) (l : IsLawful w b) (legal : IsR
               let no_call : waits_for.Nothing ≡ waits_for.Reserve (e.0).wish.request (e.0).wish.types = sym idle ∙ waits.0 in
               absurd (cc)
 
+  -- where some rank asks and the token settles all servers, the bag is settled
   pub bag_is_settled : (first : Asker) (more : List Asker) → asked ≡ first ∷ more → settled b ≡ true
   bag_is_settled first more is =
       is_settled b (

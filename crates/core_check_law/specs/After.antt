@@ -22,15 +22,19 @@ is_loose place = is_free place || is_travelling place
 abbrev pub NotFor : Rank → Option (List WorkType) → Placed → Type 0
 NotFor rank types u = is_loose u.place ≡ true → permitted rank types u.unit.kind u.unit.target ≡ false
 
+-- no unit of the list is for the rank
 abbrev pub NoneFor : Rank → Option (List WorkType) → List Placed → Type 0
 NoneFor rank types units = Each (NotFor rank types) units
 
+-- the rank was told an end
 abbrev pub IsTold : RankState → Type 0
 IsTold x = (end : End) × (x.end ≡ Some end)
 
+-- the rank asks, and no unit of the bag is for it
 abbrev pub AsksInVain : Bag → Rank → RankState → Type 0
 AsksInVain b rank x = (call : ℕ) × (types : Option (List WorkType)) × (x.status ≡ is_at.Asking call types) × NoneFor rank types b.units
 
+-- the rank has finished, asks in vain, or was told an end
 abbrev pub IsOver : Bag → Rank → RankState → Type 0
 IsOver b rank x = (x.status ≡ is_at.Finished) ⊎ AsksInVain b rank x ⊎ IsTold x
 
@@ -40,8 +44,8 @@ AllOver b = (rank : Rank) (x : RankState) → rank_at b rank ≡ Some x → IsOv
 
 -- Of the ledger.
 
--- a server takes, refuses or grants what a rank brings or wants, or looks for it in vain; or room for a unit is promised or no longer
--- is, or the unit moves to another server
+-- A server takes, refuses or grants what a rank brings or wants, or looks for it in vain. Or room for a unit is promised or no longer is,
+-- or the unit moves to another server.
 abbrev pub is_work : Entry → Bool
 is_work (enters.Refused server id used) = true
 is_work (enters.Accepted server id) = true
@@ -54,6 +58,7 @@ is_work (enters.Arrived server id) = true
 is_work (enters.Withdrawn server id) = true
 is_work _ = false
 
+-- no entry is about work
 abbrev pub AreIdle : List Entry → Type 0
 AreIdle es = Each (λ e. is_work e ≡ false) es
 

@@ -12,10 +12,12 @@ use Rattle.core_law.specs.Measures.{Weights, links_weight}
 use Rattle.core_law.specs.Pushed.{letters_of}
 use Rattle.core_run.specs.World.{World, pool_of}
 
+-- the letter says that all work is used up
 abbrev pub is_exhaust : Message → Bool
 is_exhaust tells.Exhaust = true
 is_exhaust _ = false
 
+-- the letter says that the servers end
 abbrev pub is_shutdown : Message → Bool
 is_shutdown tells.Shutdown = true
 is_shutdown _ = false
@@ -30,9 +32,11 @@ end_letter is t (by.Rank from) to m = 0
 abbrev pub flag_at : (Kept → Bool) → ℕ → ℕ → Kept → ℕ
 flag_at flag t place k = if place == t then one (flag k) else 0
 
+-- the server knows that all work is used up
 abbrev pub is_exhausted : Kept → Bool
 is_exhausted k = k.exhausted
 
+-- the server knows that the servers end
 abbrev pub is_shut : Kept → Bool
 is_shut k = k.shut
 
@@ -46,9 +50,11 @@ ends is flag t = record {
   rank_due = no_rank;
 }
 
+-- whether a server knows that all work is used up, or will hear it
 abbrev pub exhausts : Server → Weights
 exhausts t = ends is_exhaust is_exhausted t
 
+-- whether a server knows that the servers end, or will hear it
 abbrev pub shuts : Server → Weights
 shuts t = ends is_shutdown is_shut t
 

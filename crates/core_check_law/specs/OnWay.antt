@@ -19,10 +19,12 @@ use Rattle.core_check_law.specs.Tokens.{tokens}
 
 -- Of each token, by where it goes.
 
+-- what is said of a token, of a letter
 abbrev pub OfToken : (Token → Type 0) → Message → Type 0
 OfToken P (tells.Token t) = P t
 OfToken P _ = Unit {0}
 
+-- what is said of a token to a server, of a letter on a link
 abbrev pub OnToken : (Server → Token → Type 0) → Actor → Actor → Message → Type 0
 OnToken P (by.Server from) (by.Server to) m = OfToken (P to) m
 OnToken P (by.Server from) (by.Rank to) m = Unit {0}
@@ -33,6 +35,7 @@ abbrev pub OfFailed : (Token → Type 0) → Message → Type 0
 OfFailed P (tells.Failed t why) = P t
 OfFailed P _ = Unit {0}
 
+-- what is said of a token of which a test failed, of a letter on a link
 abbrev pub OnFailed : (Token → Type 0) → Actor → Actor → Message → Type 0
 OnFailed P (by.Server from) (by.Server to) m = OfFailed P m
 OnFailed P (by.Server from) (by.Rank to) m = Unit {0}
@@ -69,6 +72,7 @@ pub record IsOnWay (w : World) (to : Server) (t : Token) : Type 0 where
 pub record AreNumbered (w : World) : Type 0 where
   pub numbers : (s : Server) → s.0 < w.config.servers → (pool_of w s).kept.ring.number ≤ last_check w
 
+-- tokens are numbered, balanced and right on their way
 pub record IsRinged (w : World) : Type 0 where
   pub numbered : AreNumbered w
   pub tokens : IsBalanced tokens w

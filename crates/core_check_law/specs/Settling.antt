@@ -1,5 +1,5 @@
--- What a token of wave 2 says of the bag: where the servers that it still has to visit are as at their marks, all is settled but for
--- what these may have that fits.
+-- What a token of wave 2 says of the bag. If the servers that it still has to visit are as at their marks, all is settled but for what fits
+-- at these.
 use Rattle.std.specs.Prelude.{◌≡◌, ◌<◌, ◌≤◌, ◌⊎◌, ℕ, false, List, [], filter, Some, None, IsFalse, map, ◌∷◌}
 use Rattle.std.specs.List.{list_any}
 use Rattle.adlb_unit.specs.Targets.{home}
@@ -20,6 +20,7 @@ use Rattle.core_run.specs.World.{World, pool_of}
 use Rattle.core_law.specs.OnLinks.{Each, OnLinks}
 use Rattle.core_check_law.specs.OnWay.{IsUnchanged, OnToken, of_home, reach}
 
+-- the list has the element
 abbrev pub Has : {X : Type 0} → List X → X → Type 0
 Has [] x = ⊥
 Has (y ∷ ys) x = (y ≡ x) ⊎ Has ys x
@@ -28,6 +29,7 @@ Has (y ∷ ys) x = (y ≡ x) ⊎ Has ys x
 abbrev pub wish_of : Waiting → Wish
 wish_of e = e.wish
 
+-- the wishes of the ranks that wait at a server
 abbrev pub wished : Kept → List Wish
 wished k = map wish_of k.parked.waiting
 
@@ -51,6 +53,7 @@ pub record IsResting (w : World) (b : Bag) (r : Rank) : Type 0 where
   pub here : rank_at b r ≡ Some state
   pub rests : (state.status ≡ is_at.Finished) ⊎ AsksAs w r state
 
+-- nothing is promised, travels or is pushed, and each rank is at rest
 pub record IsRest (w : World) (b : Bag) : Type 0 where
   pub promises : b.promises ≡ []
   pub travels : IsFalse (list_any (λ u. is_travelling u.place) b.units)
@@ -77,5 +80,6 @@ abbrev pub IsSettledBehind : World → Bag → Server → Token → Type 0
 IsSettledBehind w b to t =
     t.wave ≡ 2 → AreUnchanged w (reach w.config to) → IsOpen b t.asked → IsSettling w b (reach w.config to) t.asked
 
+-- what each token under way says of the bag is so
 abbrev pub Settles : World → Bag → Type 0
 Settles w b = OnLinks (λ from to l. OnToken (IsSettledBehind w b) from to l.message) w.config w.links

@@ -9,13 +9,14 @@ use Rattle.rank_client.proofs.Granted.{if_is}
 use Rattle.adlb_unit.specs.declared.messages.Message.TheVariants as tells
 use Rattle.rank_client.specs.declared.pendings.Pending.TheVariants as waits_for
 
--- how many events are to come besides those of a letter that is under way: a unit whose own bytes come may have a common part, for which
--- the server is asked then
+-- How many events are to come besides those of a letter that is under way. A unit whose own bytes come may have a common part, for which
+-- the server is then asked.
 abbrev pub more : Pending → ℕ
 more waits_for.Nothing = 0
 more (waits_for.Common request note common own) = 0
 more _ = 2
 
+-- a pending call leads to two answers more at most
 pub more_few : (p : Pending) → more p ≤ 2
 more_few waits_for.Nothing = omega arith
 more_few _ = omega arith

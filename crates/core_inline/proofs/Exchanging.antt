@@ -153,6 +153,7 @@ module _ (said : List Said) (call : Call) (running : has_finished said ≡ false
           over = λ a is. (sym h.answer ∙ is, other);
         }
 
+    -- the delivery of a letter under way is an event of the call
     pub delivers : (from to : Actor) → IsUnderWay w from to → IsDelivered said call answer w (occurs.Deliver from to)
     delivers from to (inl (f, t, some)) = rw (f, t) (serves some)
     delivers from to (inr (f, t, some)) = rw (f, t) (hears some)
@@ -213,6 +214,7 @@ module _ (said : List Said) (call : Call) (running : has_finished said ≡ false
 
 -- The rank begins a call.
 
+-- a rank that is ready has not finished
 pub running : (w : Seen) → IsReady w → has_finished (rank_in w).transcript ≡ false
 running w i = i.rests.rank.finishes ∙ i.rests.going
 
@@ -225,6 +227,7 @@ module _ (w : Seen) (i : IsReady w) (call : Call) (can : CanCall 1 1 (rank_in w)
       (subst (λ n. CanCall n me.config.servers me.transcript call) (sym (ap (λ (g : Config). g.ranks) own ∙ i.lone.one_rank))
       (subst (λ n. CanCall 1 n me.transcript call) (sym (ap (λ (g : Config). g.servers) own ∙ i.lone.one_server)) can)))
 
+  -- a call that may be made is begun by an event of that call
   pub begins_move : IsMove (rank_in w).transcript call (event_answer w.world (occurs.Call zeroth call)) w.world (occurs.Call zeroth call)
   begins_move =
       let me = rank_in w in

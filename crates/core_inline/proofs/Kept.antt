@@ -35,9 +35,11 @@ pub record IsGoing (i : Inside) (last : Bag) : Type 0 where
 
 -- The fields hold together where this is said of the ledger.
 module _ (i : Inside) (begun : Option Call) (t : IsTold i.world.world.config i.world.world.ledger (said_in i) begun) where
+  -- the call begun in the run's fields is the one of its ledger
   pub begun_now : (run_of i).begun ≡ begun
   begun_now = begun_is i.world.world.config i.world.world.ledger (said_in i) begun t
 
+  -- what the fields of a run in line say, from the facts of its world
   pub inside_of : i.world.world.config.ranks ≡ 1 → i.world.world.config.servers ≡ 1
       → ((stamp : ℕ) → i.world.trouble ≡ Some (TooLong stamp) → (stamp_limit ≤ stamp) × (stamp ≤ 5 * length (said_in i) + 5))
       → length (said_in i) < stamp_limit → i.answered ≤ length (rank_in i.world).transcript → i.answered < stamp_limit
@@ -110,6 +112,7 @@ module _ (m : Run) (i : Inside) (is : run_of i ≡ m) (before : IsInside i) (who
     abbrev told : IsTold now.world.config now.world.ledger (said_in j) None
     told = retold now.world.config now.world.ledger (rank_in now).transcript (said_in j) None None done.true_now.told all_said refl
 
+    -- a call that is answered is made as the relation of links asks
     pub answered_made : Made (link_of m) (link_of (run_of j)) call (Ok answer)
     answered_made =
         let old = link_of (run_of i) in
@@ -126,6 +129,7 @@ module _ (m : Run) (i : Inside) (is : run_of i ≡ m) (before : IsInside i) (who
     said_finish : has_finished (said_in j) ≡ is_finish call
     said_finish = ap has_finished grown ∙ finished_more (said_in i) more ∙ ap (λ t. t || is_finish call) running
 
+    -- a run in line is one still after an answer
     pub answered_inside : IsInside j
     answered_inside =
         inside_of j None told numbers.0 numbers.1 (λ stamp late. absurd (cc (late, done.whole)))
@@ -154,6 +158,7 @@ module _ (m : Run) (i : Inside) (is : run_of i ≡ m) (before : IsInside i) (who
     told_failed =
         retold now.world.config now.world.ledger _ (said_in k) failed.begun failed.begun failed.told was_said refl
 
+    -- a call that fails is made as the relation of links asks
     pub failed_made : Made (link_of m) (link_of (run_of k)) call (Err trouble)
     failed_made =
         let new = link_of (run_of k) in
@@ -162,6 +167,7 @@ module _ (m : Run) (i : Inside) (is : run_of i ≡ m) (before : IsInside i) (who
         (batch_fell new trouble refl met) met
         (subst (λ (o : Option Call). Pends o call) (sym (begun_now k failed.begun told_failed)) failed.began))
 
+    -- a run in line is one still after a failure
     pub failed_inside : IsInside k
     failed_inside =
         inside_of k failed.begun told_failed numbers.0 numbers.1
@@ -175,6 +181,7 @@ fine_of : (a : Answer) → answers_done a ≡ true → a ≡ answers.Fine
 fine_of answers.Fine kind = refl
 fine_of _ kind = absurd (cc)
 
+-- a finish that is answered or fails adds that answer to the transcript
 pub finish_says : (said now : List Said) (failed : Option Trouble) (r : Result Answer Trouble)
     → now ≡ plus said calls_to.Finish (answered r) → failed ≡ troubled r → IfOk r (λ a. answers_done a ≡ true)
     → now ≡ plus said calls_to.Finish (finish_answer failed)
@@ -197,6 +204,7 @@ accepts limit (Ranks given) least most refused = refused.0 (omega arith, omega a
 accepts limit (Servers given) least most refused = refused.1 (omega arith, omega arith)
 accepts limit (Limit given) least most refused = refused.2 (least, most)
 
+-- the run in line before its first call
 abbrev pub at_start : Seen → Inside
 at_start w = record { world = w; answered = 0; finished = false }
 

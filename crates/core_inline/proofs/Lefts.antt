@@ -64,6 +64,7 @@ distinct_left me (p ∷ units) distinct i j d before inside =
     λ same. distinct i j p before (omega (arith, long, inside))
     (sym (ap (λ (l : LeftUnit). l.id) first) ∙ same ∙ ap (λ (l : LeftUnit). l.id) second)
 
+-- the units that a server alone has left are those left in the bag
 pub left_is : (b : Bag) (s : ServerModel) → ServerAgrees b s → HasAll b s.me → IsLeft b (left_list s)
 left_is b s agrees all = record {
   each =

@@ -12,6 +12,7 @@ use Rattle.balance_law.proofs.Paths.{IsPath, along, calls_along, path_of}
 use Rattle.balance_law.proofs.Seen.{IsAway, IsTurn, of_mine, of_none, seen}
 use Rattle.core_inline.specs.inside.Begun.{after_all, begun_in, first_open, pending_in}
 
+-- the bag after all entries of a run is its last
 pub after_all_is : (b last : Bag) (ledger : List Entry) → IsRun b ledger last → after_all b ledger ≡ last
 after_all_is b last [] run = run
 after_all_is b last (e ∷ es) run = ap (λ v. after_all v es) (sym run.1.2) ∙ after_all_is run.0 last es run.2
@@ -20,12 +21,14 @@ after_all_is b last (e ∷ es) run = ap (λ v. after_all v es) (sym run.1.2) ∙
 pub same_end : (b last other : Bag) (ledger : List Entry) → IsRun b ledger last → IsRun b ledger other → last ≡ other
 same_end b last other ledger run again = sym (after_all_is b last ledger run) ∙ after_all_is b other ledger again
 
+-- the call that is open after a transcript is the one begun
 pub first_is : (pending : Option Call) (more : List Said) (begun : Option Call) → IsOpen pending more begun
     → first_open pending more ≡ begun
 first_is pending [] begun is = sym is
 first_is pending (s ∷ []) begun is = sym is.1
 first_is pending (s ∷ t ∷ more) begun is = absurd is
 
+-- the call begun in a ledger beyond a transcript is the one that the relation names
 pub begun_is : (config : Config) (ledger : List Entry) (said : List Said) (begun : Option Call) → IsTold config ledger said begun
     → begun_in config ledger said ≡ begun
 begun_is config ledger said begun t =

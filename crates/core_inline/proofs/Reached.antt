@@ -27,9 +27,11 @@ use Rattle.adlb_unit.specs.declared.actors.Actor.TheVariants as by
 use Rattle.core_run.specs.declared.events.Event.TheVariants as occurs
 use Rattle.adlb_unit.specs.declared.messages.Message.TheVariants as tells
 
+-- the server handles the rank's front letter
 abbrev pub to_server : Event
 to_server = occurs.Deliver by_rank by_server
 
+-- the rank handles the server's front letter
 abbrev pub to_rank : Event
 to_rank = occurs.Deliver by_server by_rank
 
@@ -57,6 +59,7 @@ by_config P each config one_rank one_server =
     (λ a. subst (λ (n : ℕ). (b : InServers n) → P (record config { ranks = 1; ranks_within = a; servers = n; servers_within = b }))
     (sym one_server) (λ b. each config.limit a b config.limit_within) config.servers_within) config.ranks_within
 
+-- a list of length 1 has one element
 pub one_of : {X : Type 0} (xs : List X) → length xs ≡ 1 → (x : X) × (xs ≡ x ∷ [])
 one_of [] single = absurd (omega (arith, single))
 one_of (x ∷ []) single = (x, refl)
@@ -169,6 +172,7 @@ pub record AreFacts (w : World) : Type 0 where
   pub serves : (letter : Letter) → asked w ≡ letter ∷ [] → has_ended (pool_of w first_server) ≡ false → IsServed w letter
   pub hears : (letter : Letter) → told w ≡ letter ∷ [] → IsHeard w letter
 
+-- what holds in each world of one rank and one server to which a run leads
 pub facts : (w : World) → IsLone w → AreFacts w
 unfolding measure
 facts w l = by_world (λ v. IsLone v → AreFacts v) (λ limit a b d c s rr rs sr ss ledger at.
@@ -226,9 +230,11 @@ facts w l = by_world (λ v. IsLone v → AreFacts v) (λ limit a b d c s rr rs s
 
 -- Along a run.
 
+-- an event keeps the sizes of the run
 pub config_next : (w next : World) (e : Event) → happens w e ≡ Some next → next.config ≡ w.config
 config_next w next e happened = same_config w next (happens_does w next e happened)
 
+-- the world after an event is such a world too
 pub lone_next : (w next : World) (e : Event) → IsLone w → happens w e ≡ Some next → event_stamp w e < stamp_limit → IsLone next
 lone_next w next e l happened early =
     let same = config_next w next e happened in
@@ -242,6 +248,7 @@ lone_next w next e l happened early =
 pub rank_own : (w : World) (l : IsLone w) → IsClient w.config zeroth (client_of w zeroth)
 rank_own w l = (every_run_well w.config l.reached.events w l.reached.run).own.ranks zeroth (omega (arith, l.one_rank))
 
+-- the only server is one of this run
 pub server_own : (w : World) (l : IsLone w) → IsPool w.config first_server (pool_of w first_server)
 server_own w l = (every_run_well w.config l.reached.events w l.reached.run).own.servers first_server (omega (arith, l.one_server))
 
@@ -271,10 +278,12 @@ first_passes shut (x ∷ xs) long all =
     let both = and_parts shut (list_all (λ finished. finished) (x ∷ xs)) all in
     rw both.0 (and_parts x (list_all (λ finished. finished) xs) both.1).0
 
+-- if it has ended by the test, the server has
 pub ended_is : (w : World) → IsLone w → has_ended (pool_of w first_server) ≡ true → is_ended (pool_of w first_server) ≡ true
 ended_is w l = first_passes (pool_of w first_server).kept.shut (pool_of w first_server).kept.finished
     ((server_own w l).finished ∙ l.one_rank)
 
+-- a server that has no Finish of its rank has not ended
 pub not_ended : (s : ServerModel) → one (is_finished s.kept zeroth) ≡ 0 → is_ended s ≡ false
 not_ended s none = by_test s.kept.shut
   where
@@ -282,6 +291,7 @@ not_ended s none = by_test s.kept.shut
     by_test true = one_not (is_finished s.kept zeroth) none
     by_test false = refl
 
+-- a server that has no Finish of its rank goes on
 pub goes_on : (w : World) → IsLone w → one (is_finished (pool_of w first_server).kept zeroth) ≡ 0
     → has_ended (pool_of w first_server) ≡ false
 goes_on w l none = false_from_ne_true (has_ended (pool_of w first_server))

@@ -24,6 +24,7 @@ pub data IsAt (said : List Said) (call : Call) (c : ClientModel) : Type 0 where
   Within : c.finished ≡ false → Waits said call c → IsAt said call c
   Behind : (answer : Answer) → HasAnswer said call answer c → IsAt said call c
 
+-- a client that is at a call has the transcript before it as its front
 pub more_at : (said : List Said) (call : Call) (c : ClientModel) → IsAt said call c → (more : List Said) × (c.transcript ≡ said ++ more)
 more_at said call c (Before idle same) = ([], same ∙ sym (append-nil said))
 more_at said call c (Within going waits) = ([], waits.same ∙ sym (append-nil said))
@@ -124,6 +125,7 @@ module _ (w : World) (l : IsLone w) where
       told_as said [] None (rank_of c c.finished seat.coming) (says_all c seat.coming idle ∙ same ∙ sym (append-nil said)) refl
       (sym (rests c seat.coming c.finished idle))
 
+  -- the ledger at rest: no call is open, and what is left is what the server has
   pub true_idle : c.pending ≡ waits_for.Nothing
       → (told : IsTold w.config w.ledger c.transcript None) × IsLeft told.last (left_of (pool_of w first_server))
   true_idle idle =
@@ -160,6 +162,7 @@ pub record IsStage (said : List Said) (call : Call) (w : World) (event : Event) 
   pub few : event_stamp w event ≤ 5 * length said + 5
 
 module _ (said : List Said) (call : Call) (w : World) (event : Event) (i : IsStage said call w event) where
+  -- the event of a stage can happen
   pub enabled : IsEnabled w event
   enabled = rw i.happened refl
 
@@ -182,8 +185,8 @@ module _ (said : List Said) (call : Call) (w : World) (event : Event) (i : IsSta
     late = λ n long. let h = late n long in (h.0, omega (arith, h.1, i.few));
   }
 
-  -- The event failed: what is said of the call before it and after it is said of what it left, and the rank has heard what it had
-  -- before or what it would have after.
+  -- The event failed. What is said of the call before and after it is said of what it left. The rank has heard what it had before, or what
+  -- it would have after.
   pub stopped : (trouble : Trouble) (now : Seen) → Stops w event trouble now.world → IsFailed said call trouble now
   stopped Memory now stops =
       let cut = stops.leaves i.next i.happened in

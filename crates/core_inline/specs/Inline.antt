@@ -19,6 +19,7 @@ use Rattle.rank_client.specs.Seat.{Seat}
 use Rattle.server_core.specs.declared.states.LeftUnit.{LeftUnit}
 use Rattle.core_inline.specs.Left.{IsLeft}
 
+-- what contracts see of a run in line
 pub record Run : Type 0 where
   -- its numbers
   pub config : Config
@@ -56,6 +57,7 @@ zeroth = record { 0 = 0 }
 abbrev pub seat_by : Config → Seat
 seat_by config = record { ranks = config.ranks; servers = config.servers; limit = config.limit; me = zeroth }
 
+-- the seat of the only rank
 abbrev pub seat_of : Run → Seat
 seat_of run = seat_by run.config
 
@@ -68,8 +70,8 @@ abbrev pub link_of : Run → LinkModel
 link_of run =
     record { seat = seat_of run; said = run.transcript; batch = batch_of run; failed = run.failed; begun = run.begun }
 
--- What the ledger says beyond the transcript, and which call was begun: nothing, and then the one that is pending in the bag, if any;
--- or that call with an answer which did not come back.
+-- What the ledger says beyond the transcript, and which call was begun. If it says nothing, the call is the one that is pending in the bag,
+-- if any. Otherwise it has the call with an answer that did not come back.
 abbrev pub IsOpen : Option Call → List Said → Option Call → Type 0
 IsOpen pending [] begun = begun ≡ pending
 IsOpen pending (s ∷ []) begun = (pending ≡ None) × (begun ≡ Some s.call)

@@ -17,6 +17,7 @@ left_at id (Pinned at rank) = Some (record { id = id; server = at; pinned = Some
 left_at id (Travelling to) = None
 left_at id Spent = None
 
+-- what is left of a unit, if it is
 abbrev pub left_of : Placed → Option LeftUnit
 left_of u = left_at u.unit.id u.place
 

@@ -64,10 +64,11 @@ impl InlineWorld {
         let _ = self.run.call(Call::Finish);
     }
 
-    /// What stands at the end: the ledger, the calls of the rank with their answers, of which nothing is held, and the units that
-    /// are left, in arrival order, after `finish_inline` was called. It answers `TooLong` exactly if a call of this world,
-    /// `finish_inline` among them, met it, which none does before 2^35 calls were answered (`many`): each takes five of the 2^48
-    /// stamps at most. It answers `Memory` if a call met that, or if the list of what is left has no memory.
+    /// What is there at the end, after `finish_inline`: the ledger, the calls of the rank with their answers (in
+    /// proofs alone), and the units that are left, in arrival order. It answers `TooLong` exactly if a call of this
+    /// world met it, `finish_inline` among them. No call does before 2^35 were answered (`many`): each takes five of
+    /// the 2^48 stamps at most. It answers `Memory` if a call met that, or if the list of what is left has no
+    /// memory.
     pub fn end(self) -> Result<(Ledger, Trace<Said>, Vec<LeftUnit>), Trouble>
         requires finished { self.run.finished ≡ true }
         ensures whole { OnOk result (self.run.failed ≡ None) }

@@ -83,7 +83,7 @@ impl InlineRun {
         self.world.trouble().is_none() && self.world.batch_open(Rank(0))
     }
 
-    // What stands at the end.
+    // What is there at the end.
     pub(crate) fn end(self) -> Result<(Ledger, Trace<Said>, Vec<LeftUnit>), Trouble>
         requires finished { self.finished ≡ true }
         ensures whole { OnOk result (self.failed ≡ None) }

@@ -164,6 +164,7 @@ module _ (w : World) (k : Server) (b : Bag) (well : IsWell w) (l : IsLawful w b)
       by_about None told = other (ap (tells_of r) told)
       by_about (Some q) told = by_test q told (q.0 == r.0) refl
 
+  -- an act of a server keeps the world lawful, over the bag with its entries
   pub act_lawful : (a : Act) → IsAct w k a → (n : Bag) × IsLawful (acted w k a) n
   act_lawful a is =
       let s = pool_of w k in

@@ -1,5 +1,5 @@
--- What acts make of a server's ring and notices, of its stamps of activity, and of a server that is alone: no check runs there, and it is
--- shut only where each rank has finished.
+-- What acts make of a server's ring, notices and stamps of activity. At a server that is alone no check runs, and it is shut only if each
+-- rank has finished.
 use Rattle.std.proofs.Common.{◌≡◌, ◌≢◌, ◌≤◌, ◌<◌, ℕ, Bool, true, false, not, ◌||◌, List, [], ◌∷◌, length, Option, None, Some, refl, sym, ap}
 use Rattle.std.proofs.Common.{◌∙◌, arith, eqb, zero-add}
 use Rattle.std.specs.Prelude.{All, IfSome, is_none}

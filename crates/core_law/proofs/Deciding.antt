@@ -156,6 +156,7 @@ module _ (w : World) (k : Server) (b : Bag) (well : IsWell w) (l : IsLawful w b)
       let fresh : has_declined (in_call c p None) (pool_of w k).me ≡ false = rw (me_is ∙ h.here) untried in
       (in_call c p None, rank_is unit.id.rank p h.calling, refl, fresh)
 
+  -- accepting a put: what it needs of the bag is so, and what it makes of the rank agrees
   pub accepts_succeeds : (unit : Unit) → IsAct w k (Accepts unit) → Succeeds w k (Accepts unit) b
   accepts_succeeds unit is =
       let h = put_here w k (Accepts unit) b unit l is refl in
@@ -169,6 +170,7 @@ module _ (w : World) (k : Server) (b : Bag) (well : IsWell w) (l : IsLawful w b)
       (offers_now unit h, new.1, put_shares_open b sound unit.id.rank (in_call c p None) unit (rank_is unit.id.rank p h.calling) refl)
       (λ n run. accepted_comes c unit h.first h.tried (pool_of w k).me b n waits run)
 
+  -- refusing a put: what it needs of the bag is so, and what it makes of the rank agrees
   pub refuses_succeeds : (unit : Unit) → IsAct w k (Refuses unit) → Succeeds w k (Refuses unit) b
   refuses_succeeds unit is =
       let h = put_here w k (Refuses unit) b unit l is refl in
@@ -194,6 +196,7 @@ module _ (w : World) (k : Server) (b : Bag) (well : IsWell w) (l : IsLawful w b)
       subst (λ (es : List Entry). AreSteps es n → Comes c p now b n es) (sym entered)
       (renamed rank p now n (λ x. enters.Over x request end ∷ []) is (over_comes c p b n request end waits ended)))
 
+  -- ending a put: what it needs of the bag is so, and what it makes of the rank agrees
   pub ends_put_succeeds : (unit : Unit) (end : End) → IsAct w k (Ends_put unit end) → Succeeds w k (Ends_put unit end) b
   ends_put_succeeds unit end is =
       let h = put_here w k (Ends_put unit end) b unit l is refl in
@@ -203,6 +206,7 @@ module _ (w : World) (k : Server) (b : Bag) (well : IsWell w) (l : IsLawful w b)
       (replies w k _ _ _ refl (let e = one_self unit.id.rank in omega arith) refl) (refl, h.here)
       (_, rank_is unit.id.rank p h.calling, refl)
 
+  -- a wish of a rank that reserves is asked for in the bag
   pub asks_now : (wish : Wish) → IsCalling w b wish.rank (waits_for.Reserve wish.request wish.types) → AsksFor b wish
   asks_now wish calling = (_, rank_is wish.rank (waits_for.Reserve wish.request wish.types) calling, refl)
 
@@ -213,12 +217,14 @@ module _ (w : World) (k : Server) (b : Bag) (well : IsWell w) (l : IsLawful w b)
       ends a wish.rank (waits_for.Reserve wish.request wish.types) wish.request end tells_of_it entered h.calling
       (reserve_ended (client_of w wish.rank) wish.request wish.types wish.request end) r (refl, h.here) needs
 
+  -- ending a reserve: what it needs of the bag is so, and what it makes of the rank agrees
   pub ends_reserve_succeeds : (wish : Wish) (end : End) → IsAct w k (Ends_reserve wish end) → Succeeds w k (Ends_reserve wish end) b
   ends_reserve_succeeds wish end is =
       let h = reserve_here w k (Ends_reserve wish end) b wish l is refl in
       ends_wish (Ends_reserve wish end) wish end h refl refl
       (replies w k _ _ _ refl (let e = one_self wish.rank in omega arith) refl) (asks_now wish h.calling)
 
+  -- telling a rank that waits its end: what it needs of the bag is so, and what it makes of the rank agrees
   pub tells_succeeds : (at : Around) (wish : Wish) (rest : List Server) (end : End) → IsAct w k (Tells at wish rest end)
       → Succeeds w k (Tells at wish rest end) b
   tells_succeeds at wish rest end is =
@@ -226,9 +232,11 @@ module _ (w : World) (k : Server) (b : Bag) (well : IsWell w) (l : IsLawful w b)
       ends_wish (Tells at wish rest end) wish end h refl refl
       (replies w k _ _ _ refl (let e = one_self wish.rank in omega arith) refl) (asks_now wish h.calling)
 
+  -- a wish of a rank that tries is tried for in the bag
   pub tries_now : (wish : Wish) → IsTryHere w k b wish → TriesFor b wish
   tries_now wish h = (_, rank_is wish.rank (waits_for.Try wish.request wish.types h.tried) h.calling, refl)
 
+  -- ending a try: what it needs of the bag is so, and what it makes of the rank agrees
   pub ends_try_succeeds : (wish : Wish) (end : End) → IsAct w k (Ends_try wish end) → Succeeds w k (Ends_try wish end) b
   ends_try_succeeds wish end is =
       let h = try_here w k (Ends_try wish end) b wish l is refl in
@@ -320,12 +328,14 @@ module _ (w : World) (k : Server) (b : Bag) (well : IsWell w) (l : IsLawful w b)
       let fit = best_is_fit (pool_of w k).kept wish found.0 agrees.units.distinct found.1 in
       free_at b (pool_of w k) found.0 unit agrees found.2 fit.found fit.free
 
+  -- granting a unit to a reserve: what it needs of the bag is so, and what it makes of the rank agrees
   pub grants_succeeds : (wish : Wish) (unit : Unit) → IsAct w k (Grants wish unit) → Succeeds w k (Grants wish unit) b
   grants_succeeds wish unit is =
       let h = reserve_here w k (Grants wish unit) b wish l is refl in
       grants_wish k (Grants wish unit) wish unit refl refl h.calling h.here (best_at wish unit is.sure.1)
       (replies w k _ _ _ refl (let e = one_self wish.rank in omega arith) refl) (asks_now wish h.calling)
 
+  -- granting a unit to a try: what it needs of the bag is so, and what it makes of the rank agrees
   pub grants_try_succeeds : (wish : Wish) (unit : Unit) → IsAct w k (Grants_try wish unit) → Succeeds w k (Grants_try wish unit) b
   grants_try_succeeds wish unit is =
       let h = try_here w k (Grants_try wish unit) b wish l is refl in
@@ -345,6 +355,7 @@ module _ (w : World) (k : Server) (b : Bag) (well : IsWell w) (l : IsLawful w b)
       free_at b (pool_of w k) found.0 unit agrees found.2 (ap (λ (v : Unit). unit_with v.id units) found.2 ∙ there.0) there.1
   given_at unit wish (inr best) = best_at wish unit best
 
+  -- giving a unit to a rank that waits: what it needs of the bag is so, and what it makes of the rank agrees
   pub gives_succeeds : (at : Around) (wish : Wish) (rest : List Server) (unit : Unit) → IsAct w k (Gives at wish rest unit)
       → Succeeds w k (Gives at wish rest unit) b
   gives_succeeds at wish rest unit is =
@@ -372,6 +383,7 @@ module _ (w : World) (k : Server) (b : Bag) (well : IsWell w) (l : IsLawful w b)
 
   -- Looks.
 
+  -- answering that nothing was found: what it needs of the bag is so, and what it makes of the rank agrees
   pub looks_succeeds : (wish : Wish) → IsAct w k (Looks wish) → Succeeds w k (Looks wish) b
   looks_succeeds wish is =
       let h = try_here w k (Looks wish) b wish l is refl in
@@ -393,6 +405,7 @@ module _ (w : World) (k : Server) (b : Bag) (well : IsWell w) (l : IsLawful w b)
   bytes_are rank request note u waits there =
       sym (ap (λ (n : UnitNote). n.length) (fetched_shares (client_of w rank) request note u b waits there))
 
+  -- answering a fetch: what it needs of the bag is so, and what it makes of the rank agrees
   pub fetches_succeeds : (rank : Rank) (request : ℕ) (id : UnitId) (unit : Unit) → IsAct w k (Fetches rank request id unit)
       → Succeeds w k (Fetches rank request id unit) b
   fetches_succeeds rank request id unit is =
@@ -429,6 +442,7 @@ module _ (w : World) (k : Server) (b : Bag) (well : IsWell w) (l : IsLawful w b)
       let fresh : has_declined (in_call c p None) (pool_of w k).me ≡ false = rw (me_is ∙ h.here) untried in
       (in_call c p None, rank_is rank p h.calling, refl, fresh)
 
+  -- keeping a common part: what it needs of the bag is so, and what it makes of the rank agrees
   pub keeps_succeeds : (rank : Rank) (request : ℕ) (common : List ℕ) → IsAct w k (Keeps rank request common)
       → Succeeds w k (Keeps rank request common) b
   keeps_succeeds rank request common is =
@@ -448,6 +462,7 @@ module _ (w : World) (k : Server) (b : Bag) (well : IsWell w) (l : IsLawful w b)
       renamed rank p now n (λ x. enters.Kept me (batch_of x request) ∷ []) h.calling
       (kept_comes c request common h.first h.tried me b n waits (me_is ∙ h.here) new_named))
 
+  -- refusing a common part: what it needs of the bag is so, and what it makes of the rank agrees
   pub refuses_part_succeeds : (rank : Rank) (request : ℕ) (common : List ℕ) → IsAct w k (Refuses_part rank request common)
       → Succeeds w k (Refuses_part rank request common) b
   refuses_part_succeeds rank request common is =
@@ -464,6 +479,7 @@ module _ (w : World) (k : Server) (b : Bag) (well : IsWell w) (l : IsLawful w b)
       renamed rank p now n (λ x. enters.Refused me (unit_named x request) used ∷ []) h.calling
       (part_refused_comes c request common h.first h.tried me b n used waits (me_is ∙ h.here)))
 
+  -- ending the keeping of a part: what it needs of the bag is so, and what it makes of the rank agrees
   pub ends_keep_succeeds : (rank : Rank) (request : ℕ) (common : List ℕ) (end : End) → IsAct w k (Ends_keep rank request common end)
       → Succeeds w k (Ends_keep rank request common end) b
   ends_keep_succeeds rank request common end is =
@@ -483,6 +499,7 @@ module _ (w : World) (k : Server) (b : Bag) (well : IsWell w) (l : IsLawful w b)
       let one : its.0 ≡ p = some_is (sym its.1 ∙ ap (part_of b) named ∙ there) in
       ap (λ (x : Lot). x.accepted) (sym one) ∙ its.2 ∙ sym count
 
+  -- closing a batch: what it needs of the bag is so, and what it makes of the rank agrees
   pub closes_succeeds : (request : ℕ) (batch : BatchId) (accepted : ℕ) (part : Part) → IsAct w k (Closes request batch accepted part)
       → Succeeds w k (Closes request batch accepted part) b
   closes_succeeds request batch accepted part is =
@@ -502,6 +519,7 @@ module _ (w : World) (k : Server) (b : Bag) (well : IsWell w) (l : IsLawful w b)
       with_frees (found_in w.config) c p now b n (enters.Closed me batch) me batch (closed accepted part)
       (λ n run. closed_comes c request h.common batch me b n waits (sym seat.named) run))
 
+  -- answering the fetch of a common part: what it needs of the bag is so, and what it makes of the rank agrees
   pub fetches_part_succeeds : (rank : Rank) (request : ℕ) (batch : BatchId) (part : Part) → IsAct w k (Fetches_part rank request batch part)
       → Succeeds w k (Fetches_part rank request batch part) b
   fetches_part_succeeds rank request batch part is =
@@ -531,6 +549,7 @@ module _ (w : World) (k : Server) (b : Bag) (well : IsWell w) (l : IsLawful w b)
 
   -- Counts.
 
+  -- answering a count: what it needs of the bag is so, and what it makes of the rank agrees
   pub counts_succeeds : (rank : Rank) (request : ℕ) (kind : WorkType) → IsAct w k (Counts rank request kind)
       → Succeeds w k (Counts rank request kind) b
   counts_succeeds rank request kind is =
@@ -548,6 +567,7 @@ module _ (w : World) (k : Server) (b : Bag) (well : IsWell w) (l : IsLawful w b)
 
   -- That the problem is done.
 
+  -- noting that the problem is done: what it needs of the bag is so, and what it makes of the rank agrees
   pub hears_done_succeeds : (rank : Rank) (request : ℕ) → IsAct w k (Hears_done rank request) → Succeeds w k (Hears_done rank request) b
   hears_done_succeeds rank request is =
       let h = done_here w k (Hears_done rank request) b rank request l is refl in

@@ -1,4 +1,4 @@
--- What stands on each link after sendings, in order; and that what stands at the front of a link is a part of the sum.
+-- What is on each link after sendings, in order; and that what is at the front of a link is a part of the sum.
 use Rattle.adlb_unit.specs.Links.{is_within, place_of}
 use Rattle.adlb_unit.specs.declared.names.Server.{Server}
 use Rattle.std.proofs.Common.{◌≡◌, ◌<◌, ◌≤◌, ℕ, zero, suc, ◌+◌, true, false, cond, List, [], ◌∷◌, ◌++◌, length, set, get_or, refl, sym, ap}

@@ -125,6 +125,7 @@ module _ (w : World) (k : Server) (b : Bag) (well : IsWell w) (l : IsLawful w b)
 
   -- What the act needs of the bag.
 
+  -- what a promise needs of the bag is so
   pub promises_needs : (from : Server) (id : UnitId) (size : ℕ) → IsAct w k (Promises from id size)
       → Needs (found_in w.config) (Promises from id size) b (pool_of w k).me
   promises_needs from id size is =
@@ -140,6 +141,7 @@ module _ (w : World) (k : Server) (b : Bag) (well : IsWell w) (l : IsLawful w b)
         of.2,
       )
 
+  -- what sending a unit needs of the bag is so
   pub sends_needs : (to : Server) (size : ℕ) (unit : Unit) → IsAct w k (Sends_unit to size unit)
       → Needs (found_in w.config) (Sends_unit to size unit) b (pool_of w k).me
   sends_needs to size unit is =
@@ -150,16 +152,19 @@ module _ (w : World) (k : Server) (b : Bag) (well : IsWell w) (l : IsLawful w b)
       let servers = agrees.servers in
       (omega arith, of.1)
 
+  -- what the arrival of a unit needs of the bag is so
   pub arrives_needs : (from : Server) (unit : Unit) → IsAct w k (Arrives from unit)
       → Needs (found_in w.config) (Arrives from unit) b (pool_of w k).me
   arrives_needs from unit is =
       let of = letter_is (Arrives from unit) from (tells.PushUnit unit) is refl in
       (of ∙ ap (λ (x : Server). Some (record { unit = unit; place = Travelling x })) (sym (named is.here)), singles)
 
+  -- what the withdrawal of a promise needs of the bag is so
   pub withdraws_needs : (from : Server) (id : UnitId) → IsAct w k (Withdraws from id)
       → Needs (found_in w.config) (Withdraws from id) b (pool_of w k).me
   withdraws_needs from id is = ((letter_is (Withdraws from id) from (tells.PushCancel id) is refl).0, singles)
 
+  -- what noting exhaustion needs of the bag is so
   pub exhaust_needs : (from : Server) → IsAct w k (Hears_exhaust from) → Needs (found_in w.config) (Hears_exhaust from) b (pool_of w k).me
   exhaust_needs from is = letter_is (Hears_exhaust from) from tells.Exhaust is refl
 
@@ -182,6 +187,7 @@ module _ (w : World) (k : Server) (b : Bag) (well : IsWell w) (l : IsLawful w b)
       let made = subst (λ (x : Bag). IsMade w k a b x) (sym same) m in
       subst (λ (x : Bag). IsPushed (acted w k a) x) same (pushes_on made)
 
+  -- what is known of letters of pushes stays so after each act
   pub act_pushed : (a : Act) (n : Bag) → IsMade w k a b n → IsPushed (acted w k a) n
   act_pushed (Queries to id size) n m = unchanged_bag (Queries to id size) n refl m (asks_pushed to id size)
   act_pushed (Promises from id size) n m = promises_pushed w k from id size b n m l.pushed

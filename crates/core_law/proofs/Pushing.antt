@@ -1,5 +1,5 @@
--- Letters of pushes, with the push that stands at a server and the acknowledgement that it owes, through each act of a server and each
--- step of a rank; and to whom a push goes.
+-- Letters of pushes, with the push of a server and the acknowledgement that it owes, through each act of a server and each step of a rank.
+-- Also to whom a push goes.
 use Rattle.std.proofs.Common.{◌≡◌, ◌<◌, ℕ, zero, suc, ◌+◌, ◌-◌, ◌%◌, Bool, true, false, cond, not, ◌&&◌, length, map, Option, None, Some}
 use Rattle.std.proofs.Common.{refl, sym, ap, subst, arith}
 use Rattle.std.specs.Prelude.{is_none, nat_lt}

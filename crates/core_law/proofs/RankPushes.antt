@@ -1,5 +1,5 @@
--- A step of a rank leaves push letters, promises and units between servers as they are; and at the start of a run there
--- are no such letters, promises and units.
+-- A step of a rank leaves push letters, promises and units between servers as they are. At the start of a run there are no such letters,
+-- promises and units.
 use Rattle.std.proofs.Common.{Bool, List, None, Some, [], ap, arith, refl, subst, sym, true, ℕ, ◌<◌, ◌∷◌, ◌≡◌}
 use Rattle.std.proofs.lemmas.Bool.{lt-ltb}
 use Rattle.adlb_unit.specs.Links.{is_within, place_of}

@@ -169,6 +169,7 @@ module _ (w : World) (k : Server) (b : Bag) (well : IsWell w) (l : IsLawful w b)
         unfit = sure.unfit;
       }
 
+  -- where the only server finds exhaustion, the bag is settled
   pub alone_is_found : found_in w.config b ≡ true
   alone_is_found =
       let sure = is.sure in

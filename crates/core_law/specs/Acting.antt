@@ -12,6 +12,7 @@ use Rattle.server_law.specs.Step.{ticked}
 use Rattle.server_law.specs.Sure.{SitsIn, Sure}
 use Rattle.core_law.specs.Own.{IsWish}
 
+-- the letters after the front one
 abbrev pub behind_front : List Letter → List Letter
 behind_front [] = []
 behind_front (l ∷ rest) = rest
@@ -41,7 +42,7 @@ acted_all w me (a ∷ more) = acted_all (acted w me a) me more
 abbrev pub ticks : World → Server → ℕ → Bool → World
 ticks w me stamp up = record w { servers = slice_set w.servers me.0 (ticked (pool_of w me) stamp up) }
 
--- the letters that are taken stand at the front of their links
+-- the letters that are taken are at the front of their links
 abbrev pub AreFront : Config → Server → Links → List Heard → Type 0
 AreFront config me links [] = Unit {0}
 AreFront config me links (h ∷ more) =

@@ -58,6 +58,7 @@ IsOfCall s coming (by.Server from) (by.Rank to) m = to ≡ s.me → (coming ≡ 
 IsOfCall s coming (by.Rank from) (by.Rank to) m = Unit {0}
 IsOfCall s coming (by.Server from) (by.Server to) m = IsOfRemote s coming m
 
+-- the letter is of the rank's call
 abbrev pub OfCall : ClientModel → Option Message → Actor → Actor → Letter → Type 0
 OfCall s coming from to l = IsOfCall s coming from to l.message
 
@@ -78,6 +79,7 @@ pub record IsSeat (w : World) (b : Bag) (me : Rank) (coming : Option Message) : 
   pub said : said (client_of w me) (client_of w me).pending coming ≡ calls w.config w.ledger me
   pub facts : All (IsFact b) (holds (client_of w me) coming)
 
+-- the ledger leads to this bag, which agrees with each rank, server and push
 pub record IsLawful (w : World) (b : Bag) : Type 0 where
   pub run : IsRunWhere (found_in w.config) (empty_bag w.config) w.ledger b
   pub rests : has_due b ≡ false

@@ -24,6 +24,7 @@ abbrev pub rank_sent : ClientModel → Actor → ℕ
 rank_sent s (by.Server to) = slice_index_or s.sent to.0 0
 rank_sent s (by.Rank to) = 0
 
+-- how many letters the server has sent to the actor
 abbrev pub server_sent : Config → ServerModel → Actor → ℕ
 server_sent config s to = slice_index_or s.sent (place_of config to) 0
 

@@ -36,12 +36,15 @@ pub record Weights : Type 0 where
 abbrev pub actor : Config → ℕ → Actor
 actor config i = if nat_lt i config.ranks then by.Rank (rank_named i) else by.Server (server_named (i - config.ranks))
 
+-- the weight of the letters on a link
 abbrev pub link_weight : Config → Weights → ℕ → ℕ → List Letter → ℕ
 link_weight config m from to letters = weigh (λ l. m.letter (actor config from) (actor config to) l.message) letters
 
+-- the weight of the letters of a sender
 abbrev pub row_weight : Config → Weights → ℕ → List (List Letter) → ℕ
 row_weight config m from row = weigh_at (link_weight config m from) row
 
+-- the weight of all letters
 abbrev pub links_weight : Config → Weights → Links → ℕ
 links_weight config m links = weigh_at (row_weight config m) links
 
@@ -53,9 +56,11 @@ sends_weight m from sends = weigh (λ x. m.letter from x.to x.letter.message) se
 abbrev pub server_weight : (ℕ → Kept → ℕ) → ℕ → ServerModel → ℕ
 server_weight f place s = f place s.kept
 
+-- the weight of letters and states
 unfoldable pub measure : Weights → World → ℕ
 measure m w = links_weight w.config m w.links + weigh_at (server_weight m.server) w.servers + weigh_at m.rank w.ranks
 
+-- what it is to be by the states
 unfoldable pub due : Weights → World → ℕ
 due m w = weigh_at (server_weight m.server_due) w.servers + weigh_at m.rank_due w.ranks
 
@@ -65,9 +70,11 @@ pub record IsBalanced (m : Weights) (w : World) : Type 0 where
 
 -- What one act of a server takes and says.
 
+-- the weight of letters that a server takes
 abbrev pub heard_weight : (Actor → Actor → Message → ℕ) → Server → List Heard → ℕ
 heard_weight f me heard = weigh (λ h. f h.from (by.Server me) h.message) heard
 
+-- the weight of letters that a server says
 abbrev pub said_weight : (Actor → Actor → Message → ℕ) → Server → List ServerSaying → ℕ
 said_weight f me said = weigh (λ y. f (by.Server me) y.to y.message) said
 
@@ -79,6 +86,7 @@ ActKeeps m a s =
 
 -- A balance of letters and of ranks that wait: of an act alone, with no list of a state.
 
+-- weights of letters against weights of ranks and of those that wait
 pub record Balance : Type 0 where
   pub letter : Actor → Actor → Message → ℕ
   pub waits : ℕ → Waiting → ℕ
@@ -86,6 +94,7 @@ pub record Balance : Type 0 where
   pub rank : ℕ → ClientModel → ℕ
   pub rank_due : ℕ → ClientModel → ℕ
 
+-- a balance as weights
 abbrev pub weights : Balance → Weights
 weights b = record {
   letter = b.letter;
@@ -103,15 +112,18 @@ IsEven b a s =
 
 -- A balance of letters, of the push that stands and of the acknowledgement that is owed.
 
+-- weights of letters and of what is owed against weights of pushes
 pub record PushBalance : Type 0 where
   pub letter : Actor → Actor → Message → ℕ
   pub owed : ℕ → Debt → ℕ
   pub due : ℕ → StandingPush → ℕ
 
+-- the weight of a value, if there is one
 abbrev pub weight : {X : Type 0} → (X → ℕ) → Option X → ℕ
 weight f None = 0
 weight f (Some x) = f x
 
+-- a balance of pushes as weights
 abbrev pub push_weights : PushBalance → Weights
 push_weights b = record {
   letter = b.letter;
@@ -126,10 +138,12 @@ abbrev pub before : {X : Type 0} → Option (Option X × Option X) → Option X
 before None = None
 before (Some change) = change.0
 
+-- the value after a change
 abbrev pub afterwards : {X : Type 0} → Option (Option X × Option X) → Option X
 afterwards None = None
 afterwards (Some change) = change.1
 
+-- an act keeps the balance of pushes even
 abbrev pub IsEvenPush : PushBalance → Act → ServerModel → Type 0
 IsEvenPush b a s =
     heard_weight b.letter s.me (takes a) + weight (b.owed s.me.0) (before (debts a)) + weight (b.due s.me.0) (afterwards (turns a))

@@ -31,6 +31,7 @@ OfPush b from to (tells.PushCancel id) = IsHeldAt b from id × IsPromisedAt b to
 OfPush b from to tells.Exhaust = b.exhausted ≡ true
 OfPush b from to _ = Unit {0}
 
+-- what the bag has of a letter between servers
 abbrev pub IsOfPush : Bag → Actor → Actor → Message → Type 0
 IsOfPush b (by.Server from) (by.Server to) m = OfPush b from to m
 IsOfPush b (by.Server from) (by.Rank to) m = Unit {0}
@@ -44,6 +45,7 @@ pushes (enters.Arrived server id) = Some id
 pushes (enters.Withdrawn server id) = Some id
 pushes _ = None
 
+-- weights of letters alone
 abbrev pub letters_of : (Actor → Actor → Message → ℕ) → Weights
 letters_of f = record { letter = f; server = no_server; rank = no_rank; server_due = no_server; rank_due = no_rank }
 

@@ -14,11 +14,13 @@ pub record IsSquare (n : ℕ) (links : Links) : Type 0 where
   pub rows : length links ≡ n
   pub each : (a : ℕ) → a < n → length (row links a) ≡ n
 
+-- there are as many ranks, servers and links as the run has
 pub record IsShaped (w : World) : Type 0 where
   pub ranks : length w.ranks ≡ w.config.ranks
   pub servers : length w.servers ≡ w.config.servers
   pub square : IsSquare (actors w.config) w.links
 
+-- all that holds of letters and of the actors' own states
 pub record IsWell (w : World) : Type 0 where
   pub shape : IsShaped w
   pub own : AreOwn w

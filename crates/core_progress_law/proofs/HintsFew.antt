@@ -61,8 +61,8 @@ use Rattle.std.specs.Prelude.{nat_lt}
 use Rattle.adlb_unit.specs.declared.actors.Actor.TheVariants as by
 use Rattle.adlb_unit.specs.declared.messages.Message.TheVariants as tells
 
--- Between two servers, of each rank with its home at the second: one hint at most before the last answer, and one after it, if the
--- first keeps no wish of it.
+-- Between two servers, of each rank with its home at the second. At most one hint comes before the last answer, and one after it if the
+-- first keeps no wish of the rank.
 
 -- two hints of the rank at most, one before the last answer and one after it, if no wish is kept
 pub record IsFew (ls : List Letter) (r : Rank) (kept : ℕ) : Type 0 where

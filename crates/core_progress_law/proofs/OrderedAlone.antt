@@ -1,4 +1,4 @@
--- That the problem is done stands in no ledger before that all work was found used up: one server, and every run.
+-- That the problem is done is in no ledger before that all work was found used up: one server, and every run.
 use Rattle.std.proofs.Common.{ℕ, ◌≡◌, ◌<◌, ◌⊎◌, inl, inr, ◌==◌, ◌&&◌, not, Bool, true, false, cond, List, [], ◌∷◌, ◌++◌, append-nil, Option}
 use Rattle.std.proofs.Common.{None, Some, refl, sym, ap, ◌∙◌, subst, arith, length, ◌≢◌}
 use Rattle.std.specs.Option.{IfSome, option_map}
@@ -388,7 +388,7 @@ run_ordered config w last before (e ∷ events) run more was =
     run_ordered config more.0 last (before ++ e ∷ []) events (snoc (start config) w more.0 before e run more.1) more.2
     (event_next config before w more.0 run (happens_does w more.0 e more.1) was)
 
--- no such entry stands before that one
+-- no such entry comes before that one
 pub none_before : (config : Config) (events : List Event) (w : World) (before behind : List Entry) → Runs (start config) events w
     → w.ledger ≡ before ++ enters.Exhausted ∷ behind → list_any (causes ends_by.NoMoreWork) before ≡ false
 none_before config events w before behind run is =

@@ -1,5 +1,5 @@
--- How many letters are under way to one actor: to a rank one at most; to a server one of each rank, one of each push, one of a check and
--- two of the ends, besides hints, and besides notices, which go to server 0 alone.
+-- How many letters are under way to one actor. To a rank it is one at most; to a server one of each rank, one of each push, one of a check
+-- and two of the ends. Hints come besides, and notices, which go to server 0 alone.
 use Rattle.adlb_unit.specs.Links.{is_within, place_of}
 use Rattle.adlb_unit.specs.declared.actors.Actor.{Actor}
 use Rattle.adlb_unit.specs.declared.configs.Config.{Config}

@@ -12,10 +12,12 @@ use Rattle.core_run.specs.World.{World, pool_of}
 use Rattle.core_check_law.specs.OnWay.{IsUnchanged, last_check}
 use Rattle.core_wish_law.specs.News.{news}
 
+-- 1 for the news that a test failed
 abbrev pub is_failed : Message → ℕ
 is_failed (tells.Failed t why) = 1
 is_failed _ = 0
 
+-- such news between servers
 abbrev pub failed_letter : Actor → Actor → Message → ℕ
 failed_letter (by.Server from) (by.Server to) m = is_failed m
 failed_letter (by.Server from) (by.Rank to) m = 0
@@ -35,5 +37,6 @@ pub record IsTurning (w : World) : Type 0 where
   pub none : links_weight w.config failures w.links ≡ 0
   pub same : (t : Server) → t.0 < w.config.servers → (pool_of w t).kept.ring.number ≡ last_check w → IsUnchanged (pool_of w t)
 
+-- there is news or a check that is wanted, or one goes round
 abbrev pub Goes : World → Type 0
 Goes w = IsLive w ⊎ IsTurning w

@@ -15,24 +15,29 @@ use Rattle.core_law.specs.Pushed.{letters_of}
 
 -- To a rank.
 
+-- 1 for a letter to the rank
 abbrev pub rank_letter : Rank → Actor → Actor → Message → ℕ
 rank_letter r (by.Server from) (by.Rank to) m = one (to.0 == r.0)
 rank_letter r _ to m = 0
 
+-- how many letters are on their way to the rank
 abbrev pub to_rank : World → Rank → ℕ
 to_rank w r = links_weight w.config (letters_of (rank_letter r)) w.links
 
 -- To a server.
 
+-- 1 for a letter to the server
 abbrev pub server_letter : Server → Actor → Actor → Message → ℕ
 server_letter t from (by.Server to) m = one (to.0 == t.0)
 server_letter t from (by.Rank to) m = 0
 
+-- how many letters are on their way to the server
 abbrev pub to_server : World → Server → ℕ
 to_server w t = links_weight w.config (letters_of (server_letter t)) w.links
 
 -- Of them those of one kind.
 
+-- 1 for a letter of this kind to the server
 abbrev pub kind_letter : (Message → Bool) → Server → Actor → Actor → Message → ℕ
 kind_letter is t from (by.Server to) m = one (is m && (to.0 == t.0))
 kind_letter is t from (by.Rank to) m = 0
@@ -47,9 +52,11 @@ abbrev pub is_notice : Message → Bool
 is_notice tells.Notice = true
 is_notice _ = false
 
+-- how many hints are on their way to the server
 abbrev pub hints_to : World → Server → ℕ
 hints_to w t = links_weight w.config (letters_of (kind_letter is_hint t)) w.links
 
+-- how many notices are on their way to the server
 abbrev pub notices_to : World → Server → ℕ
 notices_to w t = links_weight w.config (letters_of (kind_letter is_notice t)) w.links
 

@@ -10,10 +10,11 @@ ghost use Rattle.core_run.specs.declared.events.Event.{Event};
 ghost use Rattle.core_run.specs.Runs.{Runs};
 ghost use Rattle.core_run.specs.World.{World, start};
 
-/// In every run, whatever the numbers of ranks and servers and the order of calls and letters. At most one letter is under way to a
-/// rank (`rank`). To a server, besides notices, at most one is of each rank, one of each push, one of a check that goes round and
-/// two of the ends that server 0 found. Of hints two are from each other server of each rank with its home there (`server`,
-/// `hints`). Notices go to server 0 alone (`notices`), and of them there are few for the calls that were begun (`pile`).
+/// In every run, whatever the numbers of ranks and servers and the order of calls and letters. At most one letter is
+/// under way to a rank (`rank`). To a server there are, besides notices, at most one of each rank, one of each push,
+/// one of a check, and two of the ends that server 0 found. Of hints two are from each other server of each rank with
+/// its home there (`server`, `hints`). Notices go to server 0 alone (`notices`), and of them there are few for the
+/// calls that were begun (`pile`).
 pub fn room_laws()
     ensures rank { (config : Config) (events : List Event) (w : World) (rank : Rank) → rank.0 < config.ranks →
         Runs (start config) events w → to_rank w rank ≤ 1 }

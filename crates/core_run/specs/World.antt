@@ -24,6 +24,7 @@ use Rattle.core_run.specs.declared.events.Event.TheVariants as occurs
 abbrev pub Links : Type 0
 Links = List (List (List Letter))
 
+-- the state of all actors at one moment
 pub record World : Type 0 where
   pub config : Config
   -- the ranks and the servers by number
@@ -34,9 +35,11 @@ pub record World : Type 0 where
   -- the entries, in the order of events
   pub ledger : List Entry
 
+-- the rank with this number
 abbrev pub rank_named : ℕ → Rank
 rank_named number = record { 0 = number }
 
+-- the server with this number
 abbrev pub server_named : ℕ → Server
 server_named number = record { 0 = number }
 
@@ -56,12 +59,15 @@ start config = record {
 
 -- What is found in a world.
 
+-- the client of a rank
 abbrev pub client_of : World → Rank → ClientModel
 client_of w rank = slice_index_or w.ranks rank.0 (new_client w.config rank)
 
+-- the state of a server
 abbrev pub pool_of : World → Server → ServerModel
 pool_of w server = slice_index_or w.servers server.0 (new_pool w.config server)
 
+-- the links of a sender
 abbrev pub row : Links → ℕ → List (List Letter)
 row links from = slice_index_or links from []
 
@@ -69,6 +75,7 @@ row links from = slice_index_or links from []
 abbrev pub link : Links → ℕ → ℕ → List Letter
 link links from to = slice_index_or (row links from) to []
 
+-- the links with one replaced
 abbrev pub put_link : Links → ℕ → ℕ → List Letter → Links
 put_link links from to letters = slice_set links from (slice_set (row links from) to letters)
 
@@ -92,6 +99,7 @@ after_rank w rank links x = record w {
   ledger = w.ledger ++ x.entries;
 }
 
+-- the world after a server's step
 abbrev pub after_server : World → Server → Links → Served → World
 after_server w server links x = record w {
   servers = slice_set w.servers server.0 x.state;

@@ -534,6 +534,7 @@ module _ (w : World) (me : Rank) (links : Links) (x : Made) (inside : me.0 < len
   abbrev after_it : World
   after_it = after_rank w me links x
 
+  -- after a rank's step each client is the one that stepped or is as before
   pub rank_or : (r : Rank) → ((r ≡ me) × (client_of after_it r ≡ x.state)) ⊎ ((r.0 ≢ me.0) × (client_of after_it r ≡ client_of w r))
   rank_or r = by_place (cases_eq r.0 me.0)
     where

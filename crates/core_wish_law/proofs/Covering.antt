@@ -364,6 +364,7 @@ module _ (w next : World) (from : Actor) (me : Server) (letter : Letter) (rest :
       ask_hints t0 chain.from wish.rank wish.request wish.types (Declines k wish) more _ (ap (acts t0 chain.from) (sym what) ∙ are)
   hints _ more are old takes_it = old
 
+  -- after an event each other server has what it needs of a rank that waits
   pub event_covered : AllCovered next
   event_covered =
       let a = chain.first in

@@ -19,15 +19,18 @@ all_pass (x ∷ xs) all =
 ended_from : (s : ServerModel) → IsTrue s.kept.shut × All IsTrue s.kept.finished → has_ended s ≡ true
 ended_from s ended = and_from s.kept.shut (list_all (λ finished. finished) s.kept.finished) ended.0 (all_pass s.kept.finished ended.1)
 
+-- a server that has ended handles no letter
 pub ended_handles_none : (w : World) (from : Actor) (to : Server) (letter : Letter) (rest : List Letter) → has_ended (pool_of w to) ≡ true
     → handle w from (by.Server to) (letter ∷ rest) ≡ None
 ended_handles_none w (by.Rank from) to letter rest ended = rw ended refl
 ended_handles_none w (by.Server from) to letter rest ended = rw ended refl
 
+-- a test does not both pass and fail
 pub not_both : (b : Bool) → b ≡ true → b ≡ false → ⊥
 not_both true is other = absurd (cc)
 not_both false is other = absurd (cc)
 
+-- an option without a value has no value
 pub none_some : {X : Type 0} (o : Option X) → o ≡ None → IsSome o → ⊥
 none_some None is some = absurd (cc)
 none_some (Some x) is some = absurd (cc)
@@ -54,6 +57,7 @@ ended_as s true is not_ended =
 unended_from : (s : ServerModel) → (IsTrue s.kept.shut × All IsTrue s.kept.finished → ⊥) → has_ended s ≡ false
 unended_from s not_ended = ended_as s (has_ended s) refl not_ended
 
+-- the test of the end says that the server is shut and all its ranks have finished
 pub ended_is : (s : ServerModel) (b : Bool) → IsTrue b ↔ (IsTrue s.kept.shut × All IsTrue s.kept.finished) → b ≡ has_ended s
 ended_is s true tells = sym (ended_from s (tells.0 refl))
 ended_is s false tells = sym (unended_from s (λ ended. let shut : IsTrue false = tells.1 ended in absurd (cc)))

@@ -64,6 +64,7 @@ fault_in : {T : Type 0} → ApplyFault → Result T ApplyFault → ApplyFault
 fault_in f (Ok t) = f
 fault_in f (Err g) = g
 
+-- a result has one fault at most
 pub err_same : {T : Type 0} (r : Result T ApplyFault) (f g : ApplyFault) → r ≡ Err f → r ≡ Err g → f ≡ g
 unfolding fault_in
 err_same r f g p q = ap (fault_in f) (sym p ∙ q)

@@ -7,10 +7,12 @@ use Rattle.bag_ledger.specs.declared.entries.Entry.{Entry}
 use Rattle.core_run.specs.World.{Links, World, link, post, put_link}
 use Rattle.core_world.specs.Applied.{IsBetween, IsHalf}
 
+-- no letter changes no link
 pub post_none : (config : Config) (links : Links) (from : ℕ) → post config links from [] ≡ links
 unfolding post
 post_none config links from = refl
 
+-- letters are sent one after the other, each at the end of its link
 pub post_one : (config : Config) (links : Links) (from : ℕ) (x : Sending) (sends : List Sending)
     → post config links from (x ∷ sends)
     ≡ post config (put_link links from (place_of config x.to) (link links from (place_of config x.to) ++ x.letter ∷ [])) from sends

@@ -71,15 +71,18 @@ server_early w me links x stamp early is low (by.Server server) =
     each_set (λ (s : ServerModel). s.clock < stamp_limit) w.servers me.0 server.0 x.state (new_pool w.config server)
     (omega (arith, is, low)) (early (by.Server server))
 
+-- a mapped option that is there comes from an element that is there
 pub mapped : {X Y : Type 0} (f : X → Y) (o : Option X) (y : Y) → option_map f o ≡ Some y → (x : X) × (o ≡ Some x) × (y ≡ f x)
 mapped f None y is = absurd (cc)
 mapped f (Some x) y is = (x, refl, sym (some_same is))
 
+-- a mapped option that is there if the test passes: it did, and the element is there
 pub mapped_if : {X Y : Type 0} (t : Bool) (f : X → Y) (o : Option X) (y : Y) → cond t (option_map f o) None ≡ Some y
     → (x : X) × (o ≡ Some x) × (y ≡ f x)
 mapped_if true f o y is = mapped f o y is
 mapped_if false f o y is = absurd (cc)
 
+-- a mapped option that is there unless the test passes: it did not, and the element is there
 pub mapped_unless : {X Y : Type 0} (t : Bool) (f : X → Y) (o : Option X) (y : Y) → cond t None (option_map f o) ≡ Some y
     → (x : X) × (o ≡ Some x) × (y ≡ f x)
 mapped_unless true f o y is = absurd (cc)
@@ -118,9 +121,11 @@ next_early w next (occurs.Deliver from to) early is low = by_test (is_within w.c
 
 -- A run leads to it.
 
+-- the world at the start is one to which a run leads
 pub start_reached : (config : Config) → IsReached (start config)
 start_reached config = record { events = []; run = refl; early = start_early config }
 
+-- the world after an event that happens below the stamp limit is reached too
 pub next_reached : (w next : World) (e : Event) → IsReached w → happens w e ≡ Some next → event_stamp w e < stamp_limit → IsReached next
 next_reached w next e reached is low = record {
   events = reached.events ++ e ∷ [];
@@ -142,6 +147,7 @@ sent_before letters rest letter last stamped is =
     let front : AreStamped 0 (letter ∷ rest) last = subst (λ k. AreStamped 0 k last) is stamped in
     stamped_below letter.stamp last rest front.2
 
+-- a letter in front on a link to an actor that goes on can be handled
 pub front_goes : (w : World) (from to : Actor) (letter : Letter) (rest : List Letter) → IsReached w → is_within w.config from ≡ true
     → is_within w.config to ≡ true → is_over w to ≡ false → link w.links (place_of w.config from) (place_of w.config to) ≡ letter ∷ rest
     → IsEnabled w (occurs.Deliver from to)

@@ -36,6 +36,7 @@ over_handles_none w from to [] over = refl
 over_handles_none w from (by.Rank to) (letter ∷ rest) over = absurd (cc)
 over_handles_none w from (by.Server to) (letter ∷ rest) over = ended_handles_none w from to letter rest over
 
+-- an event that the tests refuse does not happen
 pub none_happens : (w : World) (e : Event) → HasNone w e → happens w e ≡ None
 none_happens w (occurs.Call rank call) (inl out) = rw out refl
 none_happens w (occurs.Call rank call) (inr unready) =
@@ -62,6 +63,7 @@ unbegun : {X Y : Type 0} (f : X → Y) (o : Option X) → option_map f o ≡ Non
 unbegun f None is = refl
 unbegun f (Some x) is = absurd (cc)
 
+-- an event that does not happen is refused by the tests
 pub has_none : (w : World) (e : Event) → IsReached w → happens w e ≡ None → HasNone w e
 has_none w (occurs.Call rank call) reached none = by_test (nat_lt rank.0 w.config.ranks) refl none
   where
@@ -109,6 +111,7 @@ letter_goes w from to reached going some = by_event (happens w (occurs.Deliver f
     by_event (Some next) is = refl
     by_event None is = absurd (by_none (has_none w (occurs.Deliver from to) reached is))
 
+-- a letter under way is handled exactly if its receiver is not over
 pub receiver_decides : (w : World) (from to : Actor) (waiting : ℕ) (over : Bool) → IsReached w → waiting ≡ length (under_way w from to)
     → 0 < waiting → over ≡ is_over w to → IsTrue (not over) ↔ IsEnabled w (occurs.Deliver from to)
 receiver_decides w from to waiting true reached is some over =
@@ -143,16 +146,19 @@ refusal_says i now e given view sound whole unable =
       λ parts. ap (λ (x : Event). Err (faults.NotEnabled x)) (sym parts.2),
     )
 
+-- an event that is enabled is answered for another reason than that it is not
 pub enabled_says : (i : Inside) (now : Seen) (e given : Event) (answer : Answered) → seen_of i ≡ now → IsEnabled i.stage e
     → (answer ≡ Err (faults.NotEnabled given) → ⊥) → Says now e answer given
 enabled_says i now e given answer view enabled other =
     subst (λ (s : Seen). Says s e answer given) view
     (λ said. absurd (other said), λ parts. absurd (none_some _ (none_happens i.stage e parts.1) enabled))
 
+-- an answer is not the fault that the event is not enabled
 pub done_is_none : (answer : Answered) (told : Option Answer) (given : Event) → answer ≡ Ok told
     → answer ≡ Err (faults.NotEnabled given) → ⊥
 done_is_none answer told given is said = absurd (cc)
 
+-- a trouble is not the fault that the event is not enabled
 pub trouble_is_none : (answer : Answered) (trouble : Trouble) (given : Event) → answer ≡ Err (fault_of trouble)
     → answer ≡ Err (faults.NotEnabled given) → ⊥
 trouble_is_none answer troubles.Memory given is said = absurd (cc)

@@ -7,6 +7,7 @@ use Rattle.core_run.specs.declared.events.Event.{Event}
 use Rattle.core_world.specs.Stage.{IsReached}
 use Rattle.std.proofs.Common.{Bool, IsTrue, None, true, ◌<◌, ◌^◌, ◌∙◌, ◌≡◌}
 
+-- where nothing can happen, each server has ended, unless 2^34 calls were begun
 pub rested : (w : World) (b : Bool) (server : Server) → IsReached w → server.0 < w.config.servers → b ≡ has_ended (pool_of w server)
     → calls_begun w < 2 ^ 34 → ((event : Event) → happens w event ≡ None) → IsTrue b
 rested w b server reached there is few nothing =

@@ -15,6 +15,7 @@ by_step : (mid next : World) (front : List Event) (e : Event) → ((v : World) �
 by_step mid next front e more None ran = absurd (cc)
 by_step mid next front e more (Some v) ran = more v ran
 
+-- a run with one event more
 pub run_more : (w mid next : World) (front : List Event) (e : Event) → run w front ≡ Some mid → happens mid e ≡ Some next
     → run w (front ++ e ∷ []) ≡ Some next
 run_more w mid next [] e ran h = let same : w ≡ mid = cc in rw (same, h) refl
@@ -30,6 +31,7 @@ at_seam : (front rest : List Event) (e : Event) → slice_get (front ++ e ∷ re
 at_seam [] rest e = refl
 at_seam (x ∷ front) rest e = at_seam front rest e
 
+-- a run whose next event is refused stops at its number
 pub stops_at : (old before new : Seen) (events front rest : List Event) (e : Event) (number : ℕ) (fault : ApplyFault)
     → events ≡ front ++ e ∷ rest
     → number ≡ length front → run old.world front ≡ Some before.world → before.trouble ≡ old.trouble → Refuses before e fault new

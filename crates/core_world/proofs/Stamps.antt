@@ -26,6 +26,7 @@ use Rattle.core_world.specs.Stage.{IsFull, world_of}
 
 -- What is found in the fields is what is found in the world.
 
+-- the client read from the world is that of the rank
 pub found_client : (i : Inside) (w : World) (rank : Rank) (client : ClientModel) → world_of i ≡ w → IsFull (world_of i)
     → rank.0 < w.config.ranks
     → client ≡ get_or i.ranks.items rank.0 client → client ≡ client_of w rank
@@ -34,6 +35,7 @@ found_client i w rank client view full there is =
     let within : rank.0 < length i.ranks.items = let e = full.ranks in omega arith in
     is ∙ get_or_default i.ranks.items rank.0 client (new_client i.config rank) within ∙ ap (λ (v : World). client_of v rank) view
 
+-- the state read from the world is that of the server
 pub found_pool : (i : Inside) (w : World) (server : Server) (pool : ServerModel) → world_of i ≡ w → IsFull (world_of i)
     → server.0 < w.config.servers
     → pool ≡ get_or i.servers.items server.0 pool → pool ≡ pool_of w server
@@ -55,6 +57,7 @@ first_none : (a b : Option Trouble) → first_trouble a b ≡ None → b ≡ Non
 first_none None b none = none
 first_none (Some t) b none = absurd (cc)
 
+-- a letter that makes no trouble has a stamp below 2^48
 pub on_time : (s : ClientModel) (letter : Letter) → letter_trouble s letter ≡ None → letter_stamp s letter < 2 ^ 48
 on_time s letter none =
     late_none (letter_stamp s letter)
@@ -87,6 +90,7 @@ told_none s (waits_for.Count request kind) from (tells.Broken trouble) some = ab
 told_none s (waits_for.SetDone request tried) from (tells.Broken trouble) some = absurd (cc)
 told_none s pending from _ some = refl
 
+-- a mapped option with a value comes from one with a value
 pub unmapped : {X Y : Type 0} (f : X → Y) (o : Option X) → IsSome (option_map f o) → IsSome o
 unmapped f None some = absurd (cc)
 unmapped f (Some x) some = refl
@@ -100,6 +104,7 @@ heard_told_none s from letter some = by_test (not s.finished && nat_lt letter.st
     by_test true some = told_none (ticked s (letter_stamp s letter)) s.pending from letter.message (unmapped made _ some)
     by_test false some = absurd (cc)
 
+-- a trouble of an answer has the stamp as its cause
 pub hear_causes : (s : ClientModel) (from : Server) (letter : Letter) (trouble : Trouble) → s.trouble ≡ None → IsSome (hear s from letter)
     → letter_trouble s letter ≡ Some trouble → Causes (letter_stamp s letter) trouble
 hear_causes s from letter trouble whole expected is =
@@ -119,6 +124,7 @@ early_or_late n = by_test (nat_le (2 ^ 48) n) refl
 abbrev Tells : Result Step Trouble → ℕ → Type 0
 Tells r stamp = (n : ℕ) → (r ≡ Err (troubles.TooLong n)) ↔ ((2 ^ 48 ≤ stamp) × (n ≡ stamp))
 
+-- a step that succeeds has a stamp below 2^48
 pub step_on_time : (r : Result Step Trouble) (stamp : ℕ) → Tells r stamp → OnOk r (stamp < 2 ^ 48)
 step_on_time (Err trouble) stamp tells_it = tt
 step_on_time (Ok x) stamp tells_it =
@@ -127,6 +133,7 @@ step_on_time (Ok x) stamp tells_it =
       | inr late ↦ let e : Ok x ≡ Err (troubles.TooLong stamp) = (tells_it stamp).1 (late, refl) in absurd (cc)
     ]
 
+-- a step that fails has its stamp as the cause
 pub step_causes : (r : Result Step Trouble) (stamp : ℕ) → Tells r stamp → IfErr r (Causes stamp)
 step_causes (Ok x) stamp tells_it = tt
 step_causes (Err (troubles.TooLong n)) stamp tells_it = let t = (tells_it n).0 refl in (rw t.1 t.0, t.1)

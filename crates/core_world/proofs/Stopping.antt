@@ -1,4 +1,4 @@
--- What stands after an event that failed.
+-- What is left after an event that failed.
 use Rattle.std.proofs.Common.{◌≡◌, ◌<◌, ℕ, zero, suc, Bool, true, false, ◌&&◌, cond, List, [], ◌∷◌, ◌++◌, get_or, set, Option, Some, None}
 use Rattle.std.proofs.Common.{inl, refl, sym, ap, ◌∙◌, subst, append-nil}
 use Rattle.std.specs.Prelude.{IsSome, nat_lt}
@@ -90,6 +90,7 @@ cut_kept w new after event kept h =
 
 -- The actor itself failed.
 
+-- an event that fails for its stamp stops a world that is kept
 pub stops_kept : (w new : World) (event : Event) (trouble : Trouble) → Causes (event_stamp w event) trouble → IsKept w new
     → Stops w event trouble new
 stops_kept w new event troubles.Memory cause kept = record { cause = cause; leaves = λ after h. cut_kept w new after event kept h }
@@ -103,6 +104,7 @@ same_at (x ∷ ranks) zero (suc k) d e s is = refl
 same_at (x ∷ ranks) (suc at) zero d e s is = refl
 same_at (x ∷ ranks) (suc at) (suc k) d e s is = same_at ranks at k d e s is
 
+-- a client that changes but for its transcript keeps the world
 pub kept_client : (w : World) (links : Links) (rank : Rank) (s : ClientModel) → s.transcript ≡ (client_of w rank).transcript
     → IsKept w (with_client (record w { links = links }) rank s)
 kept_client w links rank s is =
@@ -112,12 +114,14 @@ kept_client w links rank s is =
       transcripts = λ r. same_at w.ranks rank.0 r.0 (new_client w.config r) (new_client w.config rank) s is;
     }
 
+-- a server that changes keeps the world
 pub kept_server : (w : World) (links : Links) (server : Server) (s : ServerModel)
     → IsKept w (with_server (record w { links = links }) server s)
 kept_server w links server s = record { config = refl; ledger = refl; transcripts = λ r. refl }
 
 -- The client that was to begin a call, or to hear the front letter, failed; the server that was to handle it failed.
 
+-- a call that fails stops the world with that trouble
 pub call_stops : (w now : World) (rank : Rank) (call : Call) (trouble : Trouble) → Causes (event_stamp w (occurs.Call rank call)) trouble
     → now ≡ with_client w rank (record (client_of w rank) { trouble = Some trouble }) → Stops w (occurs.Call rank call) trouble now
 call_stops w now rank call trouble cause is =
@@ -125,6 +129,7 @@ call_stops w now rank call trouble cause is =
     subst (λ (v : World). Stops w (occurs.Call rank call) trouble v) (sym is)
     (stops_kept w (with_client w rank s) (occurs.Call rank call) trouble cause (kept_client w w.links rank s refl))
 
+-- an answer that fails stops the world with that trouble
 pub answer_stops : (w took now : World) (from : Server) (to : Rank) (letter : Letter) (rest : List Letter) (trouble : Trouble)
     → under_way w (by.Server from) (by.Rank to) ≡ letter ∷ rest → took ≡ record w { links = taken w (by.Server from) (by.Rank to) rest }
     → Causes (letter_stamp (client_of took to) letter) trouble
@@ -143,6 +148,7 @@ answer_stops w took now from to letter rest trouble front took_is cause is =
     (stops_kept w (with_client (record w { links = links }) to s) event trouble (subst (λ n. Causes n trouble) (sym stamp) caused)
     (kept_client w links to s refl))
 
+-- a letter to a server that fails stops the world with that trouble
 pub request_stops : (w took now : World) (from : Actor) (to : Server) (letter : Letter) (rest : List Letter) (trouble : Trouble)
     → under_way w from (by.Server to) ≡ letter ∷ rest → took ≡ record w { links = taken w from (by.Server to) rest }
     → Causes (next_stamp (pool_of took to) letter) trouble → (s : ServerModel) → now ≡ with_server took to s
@@ -164,12 +170,14 @@ some_of : {X : Type 0} (o : Option X) → IsSome o → (x : X) × (o ≡ Some x)
 some_of None some = absurd (cc)
 some_of (Some x) some = (x, refl)
 
+-- an event that fails keeps the sizes of the run
 pub stops_config : (w now : World) (event : Event) (trouble : Trouble) → IsEnabled w event → Stops w event trouble now
     → now.config ≡ w.config
 stops_config w now event troubles.Memory enabled stops = let after = some_of (happens w event) enabled in
     (stops.leaves after.0 after.1).config
 stops_config w now event (troubles.TooLong stamp) enabled stops = stops.leaves.config
 
+-- an event keeps the sizes of the run
 pub happens_config : (w now : World) (event : Event) → happens w event ≡ Some now → now.config ≡ w.config
 happens_config w now event h = (grows w now event h).2
 
@@ -205,6 +213,7 @@ handled_by w (by.Rank from) to letter rest some = unless_ended w to (taken w (by
 handled_by w (by.Server from) to letter rest some = unless_ended w to (taken w (by.Server from) (by.Server to) rest)
     (has_ended (pool_of w to)) (serve (pool_of w to) (by.Server from) letter) some
 
+-- a letter whose delivery is enabled has a step at its server
 pub serve_expected : (w took : World) (from : Actor) (to : Server) (letter : Letter) (rest : List Letter)
     → IsEnabled w (occurs.Deliver from (by.Server to))
     → under_way w from (by.Server to) ≡ letter ∷ rest → took ≡ record w { links = taken w from (by.Server to) rest }
@@ -229,6 +238,7 @@ handled_as : (w : World) (from : Actor) (to : Server) (letter : Letter) (rest : 
 handled_as w (by.Rank from) to letter rest = refl
 handled_as w (by.Server from) to letter rest = refl
 
+-- `Some` of two values is equal only if the values are
 pub some_same : {X : Type 0} {x y : X} → Some x ≡ Some y → x ≡ y
 some_same is = cc
 
@@ -270,6 +280,7 @@ module _ (w took stepped : World) (from : Actor) (to : Server) (letter : Letter)
       ∙ ap (λ (o : Option Served). cond ended None (option_map (after_server w to links) o)) here in
       same ∙ unless_is ended (after_server w to links made) (subst IsSome same some)
 
+  -- the delivery of the letter happens, and leads to what the step made
   pub has_happened : happens w (occurs.Deliver from (by.Server to)) ≡ Some (after_server w to links made)
   has_happened = by_test (is_within w.config from && is_within w.config (by.Server to)) enabled front
 
@@ -280,6 +291,7 @@ module _ (w took stepped : World) (from : Actor) (to : Server) (letter : Letter)
   abbrev given : World → World
   given v = record v { links = post v.config v.links (place_of v.config (by.Server to)) sends; ledger = v.ledger ++ entries }
 
+  -- a world in which all was given as the step says is the one after the event
   pub given_happens : (now : World) → now ≡ given stepped → happens w (occurs.Deliver from (by.Server to)) ≡ Some now
   given_happens now is = has_happened ∙ sym (ap Some (is ∙ ap given stands))
 

@@ -1,4 +1,4 @@
--- What applying an event does, why it is refused, and what stands then.
+-- What applying an event does, why it is refused, and what is left then.
 use Rattle.std.specs.Prelude.{◌≡◌, ◌⊎◌, ◌<◌, ◌≤◌, ℕ, true, false, List, [], ◌∷◌, ◌++◌, Option, None, Some, IsSome, take, option_and_then}
 use Rattle.std.specs.List.{slice_get}
 use Rattle.adlb_unit.specs.Limits.{stamp_limit}
@@ -29,6 +29,7 @@ front_stamp w to [] = 0
 front_stamp w (by.Rank to) (letter ∷ rest) = letter_stamp (client_of w to) letter
 front_stamp w (by.Server to) (letter ∷ rest) = next_stamp (pool_of w to) letter
 
+-- the stamp of the event
 abbrev pub event_stamp : World → Event → ℕ
 event_stamp w (occurs.Call rank call) = call_stamp (client_of w rank)
 event_stamp w (occurs.Deliver from to) = front_stamp w to (under_way w from to)
@@ -40,6 +41,7 @@ abbrev pub front_answer : World → Actor → Actor → List Letter → Option A
 front_answer w (by.Server from) (by.Rank to) (letter ∷ rest) = option_and_then (λ x. x.answer) (hear (client_of w to) from letter)
 front_answer w from to letters = None
 
+-- the answer of the call that the event answers, if there is one
 abbrev pub event_answer : World → Event → Option Answer
 event_answer w (occurs.Call rank call) = option_and_then (λ x. x.answer) (begin (client_of w rank) call)
 event_answer w (occurs.Deliver from to) = front_answer w from to (under_way w from to)
@@ -62,13 +64,14 @@ Causes stamp (troubles.TooLong late) = (stamp_limit ≤ late) × (late ≡ stamp
 
 -- An event that is applied.
 
+-- the event happened, and the world goes on
 pub record Applies (old : Seen) (event : Event) (new : Seen) : Type 0 where
   pub whole : old.trouble ≡ None
   pub stamp : event_stamp old.world event < stamp_limit
   pub happened : happens old.world event ≡ Some new.world
   pub goes_on : new.trouble ≡ None
 
--- What stands after an event that failed.
+-- What is left after an event that failed.
 
 -- the ledger and the transcripts are as they were
 pub record IsKept (old new : World) : Type 0 where
@@ -96,7 +99,7 @@ pub record IsHalf (old : World) (entries : List Entry) (new : World) : Type 0 wh
   pub servers : new.servers ≡ old.servers
   pub ledger : IsBetween old.ledger new.ledger (old.ledger ++ entries)
 
--- what stands, by the trouble by which an enabled event failed
+-- what is left, by the trouble by which an enabled event failed
 abbrev pub Leaves : World → Event → Trouble → World → Type 0
 Leaves old event troubles.Memory new = (after : World) → happens old event ≡ Some after → IsCut old new after
 Leaves old event (troubles.TooLong stamp) new = IsKept old new
@@ -124,6 +127,7 @@ pub record Fails (old : Seen) (event : Event) (trouble : Trouble) (new : Seen) :
 abbrev pub Repeats : Seen → Trouble → Seen → Type 0
 Repeats old trouble new = (old.trouble ≡ Some trouble) × (new ≡ old)
 
+-- why an event is refused, and what is left then
 abbrev pub Refuses : Seen → Event → ApplyFault → Seen → Type 0
 Refuses old event (faults.NotEnabled given) new =
     (old.trouble ≡ None) × (happens old.world event ≡ None) × (given ≡ event) × (new ≡ old)

@@ -4,6 +4,7 @@ use Rattle.core_world.specs.declared.worlds.World.TheInside.{Inside}
 use Rattle.core_world.specs.Seen.{Seen}
 use Rattle.core_world.specs.Stage.{IsReached, IsWhole}
 
+-- what is seen of the fields
 abbrev pub seen_of : Inside → Seen
 seen_of i = record { world = i.stage; trouble = i.trouble }
 

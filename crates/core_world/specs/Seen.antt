@@ -7,11 +7,13 @@ use Rattle.adlb_unit.specs.declared.letters.Letter.{Letter}
 use Rattle.adlb_unit.specs.declared.notes.Trouble.{Trouble}
 use Rattle.core_run.specs.World.{World, link, start}
 
+-- a world, and what made it fail
 pub record Seen : Type 0 where
   pub world : World
   -- what made it fail, if anything did
   pub trouble : Option Trouble
 
+-- the world at the start
 abbrev pub new_world : Config → Seen
 new_world config = record { world = start config; trouble = None }
 

@@ -12,6 +12,7 @@ use Rattle.core_run.specs.World.{World, start}
 use Rattle.core_progress_law.specs.Lines.{clock_of}
 use Rattle.core_world.specs.declared.stages.Stage.TheInside.{Inside}
 
+-- the world of its fields
 abbrev pub world_of : Inside → World
 world_of i = record {
   config = i.config;
@@ -25,6 +26,7 @@ world_of i = record {
 abbrev pub with_client : World → Rank → ClientModel → World
 with_client w rank s = record w { ranks = slice_set w.ranks rank.0 s }
 
+-- the world with the state of a server replaced
 abbrev pub with_server : World → Server → ServerModel → World
 with_server w server s = record w { servers = slice_set w.servers server.0 s }
 
@@ -33,6 +35,7 @@ pub record IsFull (w : World) : Type 0 where
   pub ranks : length w.ranks ≡ w.config.ranks
   pub servers : length w.servers ≡ w.config.servers
 
+-- each rank, server and link is there
 abbrev pub IsInside : Inside → Type 0
 IsInside i = IsFull (world_of i)
 

@@ -16,13 +16,14 @@ use bag_ledger::Answer;
 use core_run::Event;
 
 impl World {
-    /// Carries out an event, as `happens` says: a rank begins a call, or an actor handles the front letter of a list. It tells the
-    /// answer of the call that the event answers, if there is one (`event_answer`). If there is no such event now, it answers
-    /// `NotEnabled` with the event, and nothing has changed; this is tested first. It is so exactly if the rank or an actor is not
-    /// in the run, the rank is not ready, no letter is under way, or the receiver has ended (`HasNone`). Every other front letter
-    /// is expected, since a run leads to the world. It answers `TooLong` exactly when the event is enabled and its stamp would
-    /// reach `2^48`, which is so only after `2^34` calls; the only other error is `Memory`. After one of these two the world has
-    /// failed, and answers the same to every event; what stands then is said by `Stops`.
+    /// Carries out an event, as `happens` says: a rank begins a call, or an actor handles the front letter of a list.
+    /// It tells the answer of the call that the event answers, if there is one (`event_answer`). If there is no such
+    /// event now, it answers `NotEnabled` with the event, and nothing has changed; this is tested first. That is so
+    /// exactly if a rank or actor is not in the run, the rank is not ready, no letter is under way, or its receiver
+    /// has ended (`HasNone`). Every other front letter is expected, since a run leads to the world. It answers
+    /// `TooLong` exactly when the event is enabled and its stamp would reach `2^48`, which is so only after `2^34`
+    /// calls; the only other error is `Memory`. After one of these two the world has failed, and answers the same to
+    /// every event; what is left is said by `Stops`.
     pub fn apply(&mut self, event: Event) -> Result<Option<Answer>, ApplyFault>
         ensures told { IfOk result (λ answer. answer ≡ event_answer self.old.world event) }
         ensures applied { OnOk result (Applies self.old event self.new) }
@@ -56,7 +57,7 @@ impl World {
     /// Carries out an event that is enabled, in a world that has not failed, and tells the answer of the call that it answers, if
     /// there is one (`event_answer`). It is for callers that know that there is such an event: unlike `apply` it does not look. It
     /// answers `TooLong` exactly when the event's stamp would reach `2^48`; its only other error is `Memory`. Then the world
-    /// has failed, and what stands is said by `Stops`.
+    /// has failed, and what is left is said by `Stops`.
     pub fn carry_out(&mut self, event: Event) -> Result<Option<Answer>, Trouble>
         requires whole { self.old.trouble ≡ None }
         requires enabled { IsEnabled self.old.world event }

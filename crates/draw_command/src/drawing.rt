@@ -18,12 +18,14 @@ use ledger_file::text_laws;
 use ledger_picture::Numbers;
 use std::alloc::Global;
 
-/// Reads the input, which is to be the text of a configuration and a ledger, and writes the ledger as a picture: an SVG with a lane for
-/// each rank and each server, up to the first entry that is no step. It takes at most 2^26 + 1 bytes of the input.
+/// Reads the input, which is to be the text of a configuration and a ledger, and writes the ledger as a picture. It
+/// is an SVG with a lane for each rank and server, up to the first entry that is no step. It takes at most 2^26 + 1
+/// bytes of the input.
 ///
-/// `DrawsTo` says of each end what was read and written and why it came. `Ok`: the input was read to its end, and the sink took exactly
-/// a picture with the numbers of its ledger, and flushed. `Entry`, `TooLarge`, `Read`, `Write` and `Memory` come as those of `check_ledger`.
-/// Nothing is written but at `Write` and `Memory`, where a part of the picture's front was taken.
+/// `DrawsTo` says of each end what was read and written and why it came. `Ok`: the input was read to its end, and the
+/// sink took exactly a picture with the numbers of its ledger, and flushed. `Entry`, `TooLarge`, `Read`, `Write` and
+/// `Memory` come as those of `check_ledger`. Nothing is written but at `Write` and `Memory`, where a part of the
+/// picture's front was taken.
 ///
 /// `complete`, `refused` and `overlong` say that each end that has its cause comes, or `Memory`.
 pub fn draw_ledger<S: Source, K: Sink>(

@@ -7,7 +7,7 @@ use adlb_io::{Sink, write_all};
 use ledger_command::CheckFault;
 use ledger_picture::{Numbers, Picture};
 
-/// Writes the picture's text and flushes. `Write` comes only if the sink's count of faults rose (or stands at its last value). At `Write`
+/// Writes the picture's text and flushes. `Write` comes only if the sink's count of faults rose (or is at its last value). At `Write`
 /// and `Memory`, its only other error, a part of the text's front was taken, which may be nothing.
 pub(crate) fn write_picture<K: Sink>(
     output: &mut K,

@@ -1,4 +1,4 @@
--- How often motifs stand in a text.
+-- How often motifs occur in a text.
 use Rattle.std.specs.Prelude.{ℕ, ◌+◌, min, Bool, cond, nat_eq, Option, Some, None, List, [], ◌∷◌, count_by, length, slice_get}
 use Rattle.std.specs.Borrow.{Bor}
 use Rattle.std.specs.List.{range_with_len, starts_with}
@@ -8,7 +8,7 @@ abbrev pub places : List ℕ → List ℕ → ℕ
 places motif [] = 0
 places motif (letter ∷ rest) = cond (starts_with nat_eq (letter ∷ rest) motif) 1 0 + places motif rest
 
--- how often the motif stands in the text, up to 255 times; no motif never does
+-- how often the motif occurs in the text, up to 255 times; no motif never does
 abbrev pub times_of : List ℕ → Option (Bor (List ℕ)) → ℕ
 times_of text None = 0
 times_of text (Some motif) = min 255 (places motif.now text)

@@ -1,5 +1,5 @@
-//! Counts how often each of some motifs stands in a text. The text is the common part of a batch, a motif is a unit of it by its number, and
-//! what is found of it is a unit for rank 0.
+//! Counts how often each of some motifs occurs in a text. The text is the common part of a batch, a motif is a unit
+//! of it by its number, and what is found is a unit for rank 0.
 #![tactic(auto)]
 
 mod texts;

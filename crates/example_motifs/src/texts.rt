@@ -1,4 +1,4 @@
-//! A text, some motifs, and how often one stands in a text.
+//! A text, some motifs, and how often one occurs in a text.
 
 ghost use Rattle.std.specs.Prelude.{◌≡◌};
 ghost use Rattle.example_motifs.specs.Texts.{places, times};
@@ -10,7 +10,7 @@ pub const TEXT: &[u8] =
 /// The motifs that are looked for.
 pub const MOTIFS: &[&[u8]] = &[b"the", b"rank", b"unit", b"that", b"e", b" ", b"zebra"];
 
-/// How often the motif of this number stands in the text, up to 255 times. A motif that is not there never does.
+/// How often the motif of this number occurs in the text, up to 255 times. A motif that is not there never does.
 pub fn times(motifs: &[&[u8]], text: &[u8], number: u8) -> u8
     ensures { result ≡ times motifs.now text.now number }
 {

@@ -114,6 +114,7 @@ module _ (m : RingModel) (t : Token) where
   other_is : not (m.me.0 == 0) ≡ true → m.me.0 ≢ 0
   other_is e = eqb-false m.me.0 0 (not_true (m.me.0 == 0) e)
 
+  -- where the test passes, the token is to be marked
   pub mark_is : is_to_mark m t ≡ true → IsToMark m t
   mark_is e =
       let a = and_parts (not (m.me.0 == 0))
@@ -164,15 +165,18 @@ module _ (m : RingModel) (t : Token) where
   test_tested : IsToTest m t → is_to_test m t ≡ true
   test_tested r = rw (ne_eqb m.me.0 0 r.other, eq-eqb t.wave 2 r.wave, eq-eqb m.ring.number t.check r.marked, r.untested) refl
 
+  -- where the test passes, the token is to be judged
   pub judge_is : is_to_judge m t ≡ true → IsToJudge m t
   judge_is e =
       let a = and_parts (is_running m t) ((t.wave == 2) && m.ring.tested) e in
       let b = and_parts (t.wave == 2) m.ring.tested a.1 in
       record { running = running_is a.0; wave = eqb-true t.wave 2 b.0; tested = b.1 }
 
+  -- where the test passes, the token has come back or is to be tested
   pub comes_back : has_come_back m t ≡ true → HasComeBack m t ⊎ IsToTest m t
   comes_back e = inl (back_is e)
 
+  -- a token that is to be tested is one that comes back
   pub comes_again : is_to_test m t ≡ true → HasComeBack m t ⊎ IsToTest m t
   comes_again e = inr (test_is e)
 
@@ -196,6 +200,7 @@ module _ (m : RingModel) (from : Server) (t : Token) where
   before_tested : IsBefore m from → is_before m from ≡ true
   before_tested r = rw (lt-ltb from.0 m.config.servers r.0, eq-eqb (behind m.config from 1).0 m.me.0 (ap (λ (s : Server). s.0) r.1)) refl
 
+  -- a token that passes the test is expected
   pub expects_is : expects m from t ≡ true → Expects m from t
   expects_is e =
       let a = and_parts (is_before m from) (is_to_mark m t || (has_come_back m t || (is_to_test m t || is_to_judge m t))) e in
@@ -214,6 +219,7 @@ module _ (m : RingModel) (from : Server) (t : Token) where
       by_row (inl e) = inl (mark_is m t e)
       by_row (inr e) = inr (by_next (either (has_come_back m t) (is_to_test m t || is_to_judge m t) e))
 
+  -- a token that is expected passes the test
   pub expects_tested : Expects m from t → expects m from t ≡ true
   expects_tested r = rw (before_tested r.0, by_row r.1) refl
     where

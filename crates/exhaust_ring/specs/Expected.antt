@@ -18,6 +18,7 @@ pub record AreNamed (config : Config) (asked : List Asker) : Type 0 where
 abbrev pub AreHome : Config → Server → List Asker → Type 0
 AreHome config me asked = All (λ (a : Asker). home_of config.servers a.0 ≡ me.0) asked
 
+-- no rank of the list is at home here
 abbrev pub AreAway : Config → Server → List Asker → Type 0
 AreAway config me asked = All (λ (a : Asker). home_of config.servers a.0 ≢ me.0) asked
 
@@ -65,6 +66,7 @@ pub record IsToJudge (m : RingModel) (t : Token) : Type 0 where
 abbrev pub IsBefore : RingModel → Server → Type 0
 IsBefore m from = (from.0 < m.config.servers) × (behind m.config from 1 ≡ m.me)
 
+-- the token comes from the server before this one, and to be marked, judged or tested
 abbrev pub Expects : RingModel → Server → Token → Type 0
 Expects m from t = IsBefore m from × (IsToMark m t ⊎ HasComeBack m t ⊎ IsToTest m t ⊎ IsToJudge m t)
 
@@ -79,33 +81,43 @@ abbrev pub is_each_once : List Asker → Bool
 is_each_once [] = true
 is_each_once (a ∷ asked) = not (is_named a.0 asked) && is_each_once asked
 
+-- as a test, each rank of the list is in the run
 abbrev pub are_inside : Config → List Asker → Bool
 are_inside config asked = list_all (λ a. nat_lt a.0.0 config.ranks) asked
 
+-- each is in the run, and there once
 abbrev pub are_named : Config → List Asker → Bool
 are_named config asked = are_inside config asked && is_each_once asked
 
+-- no rank of the list is at home here, as a test
 abbrev pub are_away : Config → Server → List Asker → Bool
 are_away config me asked = list_all (λ a. not (home_of config.servers a.0 == me.0)) asked
 
+-- it is the token of the check that runs here
 abbrev pub is_running : RingModel → Token → Bool
 is_running m t = (m.me.0 == 0) && (m.ring.runs && (t.check == m.ring.check))
 
+-- as a test, the token comes for the mark
 abbrev pub is_to_mark : RingModel → Token → Bool
 is_to_mark m t = not (m.me.0 == 0)
     && ((t.wave == 1) && (are_named m.config t.asked && (not (m.ring.number == t.check) && are_away m.config m.me t.asked)))
 
+-- the token has come back from wave 1
 abbrev pub has_come_back : RingModel → Token → Bool
 has_come_back m t = is_running m t && ((t.wave == 1) && are_named m.config t.asked)
 
+-- the token comes for the test in wave 2
 abbrev pub is_to_test : RingModel → Token → Bool
 is_to_test m t = not (m.me.0 == 0) && ((t.wave == 2) && ((m.ring.number == t.check) && not m.ring.tested))
 
+-- the token comes for the verdict
 abbrev pub is_to_judge : RingModel → Token → Bool
 is_to_judge m t = is_running m t && ((t.wave == 2) && m.ring.tested)
 
+-- the sender is the server before this one
 abbrev pub is_before : RingModel → Server → Bool
 is_before m from = nat_lt from.0 m.config.servers && ((behind m.config from 1).0 == m.me.0)
 
+-- what `Expects` says, as a test
 abbrev pub expects : RingModel → Server → Token → Bool
 expects m from t = is_before m from && (is_to_mark m t || (has_come_back m t || (is_to_test m t || is_to_judge m t)))

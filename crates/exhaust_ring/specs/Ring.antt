@@ -14,6 +14,7 @@ Asker = Rank × Option (List WorkType)
 abbrev pub token : ℕ → ℕ → List Asker → Token
 token check wave asked = record { check = check; wave = wave; asked = asked }
 
+-- what a server keeps of checks
 pub record Ring : Type 0 where
   -- how many checks were started here, which is the number of the last; and whether that one has not ended. Server 0 alone starts any
   pub check : ℕ
@@ -39,9 +40,11 @@ pub record RingModel : Type 0 where
 abbrev pub no_check : Ring
 no_check = record { check = 0; runs = false; wanted = false; number = 0; mark = 0; tested = false }
 
+-- the ring of a server at the start
 abbrev pub new_ring : Config → Server → RingModel
 new_ring config me = record { config = config; me = me; ring = no_check; exhausted = false; shut = false }
 
+-- the model with this ring
 abbrev pub with_ring : RingModel → Ring → RingModel
 with_ring m ring = record m { ring = ring }
 
@@ -82,6 +85,7 @@ ended r = record r { runs = false }
 abbrev pub with_exhausted : RingModel → RingModel
 with_exhausted m = record m { ring = ended m.ring; exhausted = true }
 
+-- the server knows that the servers end
 abbrev pub with_shut : RingModel → RingModel
 with_shut m = record m { ring = ended m.ring; shut = true }
 
@@ -91,6 +95,7 @@ with_shut m = record m { ring = ended m.ring; shut = true }
 abbrev pub may_start : RingModel → Bool → Bool
 may_start m quiet = (m.me.0 == 0) && (m.ring.wanted && (not m.ring.runs && (quiet && not m.shut)))
 
+-- a check may start: here, wanted, none runs, and the server is quiet and not shut
 pub record MayStart (m : RingModel) (quiet : Bool) : Type 0 where
   pub zeroth : m.me.0 ≡ 0
   pub wanted : m.ring.wanted ≡ true

@@ -9,10 +9,12 @@ use Rattle.exhaust_ring.specs.Tests.{first_failing}
 use Rattle.exhaust_ring.specs.declared.steps.RingStep.{RingStep}
 use Rattle.exhaust_ring.specs.declared.steps.RingStep.TheVariants.{Pass, Fail, Exhausted, Shutdown, Ended}
 
+-- what a visit makes of the ring, and what is said
 pub record Outcome : Type 0 where
   pub ring : RingModel
   pub step : RingStep
 
+-- a ring with what is said
 abbrev pub outcome : RingModel → RingStep → Outcome
 outcome ring step = record { ring = ring; step = step }
 
@@ -30,6 +32,7 @@ judged m t (Some why) =
     if m.me.0 == 0 then outcome (with_ring m (ended m.ring)) Ended
     else outcome (with_ring m (with_tests m.ring)) (Fail t why)
 
+-- a visit in wave 2
 abbrev pub visited2 : RingModel → Token → Bool → ℕ → Option UnitId → Outcome
 visited2 m t quiet activity fits = judged m t (first_failing quiet m.ring.mark activity fits)
 
@@ -39,6 +42,7 @@ abbrev pub found_of : RingModel → List Asker → Outcome
 found_of m [] = outcome (with_shut m) Shutdown
 found_of m (first ∷ more) = if m.exhausted then outcome (with_ring m (ended m.ring)) Ended else outcome (with_exhausted m) Exhausted
 
+-- a visit of the token for the verdict
 abbrev pub verdict_of : RingModel → Token → Outcome
 verdict_of m t = found_of m t.asked
 
@@ -47,13 +51,16 @@ verdict_of m t = found_of m t.asked
 abbrev pub first_token : RingModel → List Asker → Token
 first_token m parked = token m.ring.check 1 parked
 
+-- a check of a server that is alone goes on to the verdict at once
 abbrev pub then_verdict : RingModel → RingStep → Outcome
 then_verdict m (Pass t) = verdict_of m t
 then_verdict m step = outcome m step
 
+-- the verdict of a server that is alone
 abbrev pub judged_alone : Outcome → Outcome
 judged_alone o = then_verdict o.ring o.step
 
+-- a check that starts: with one server it is judged at once
 abbrev pub started : RingModel → ℕ → List Asker → Option UnitId → Outcome
 started m activity parked fits =
     let after = with_ring m (begun m.ring activity) in

@@ -1,7 +1,7 @@
 //! What the definitions of the ring come to.
 
 ghost use Rattle.std.specs.Prelude.{◌≡◌, ◌≢◌, ◌↔◌, ℕ, Bool, false, true, IsTrue, List, Option, None, Some};
-ghost use Rattle.adlb_unit.specs.declared.messages.Why.{Why as Reason};
+ghost use Rattle.adlb_unit.specs.declared.messages.Why.{Why};
 ghost use Rattle.adlb_unit.specs.declared.names.Server.{Server};
 ghost use Rattle.adlb_unit.specs.declared.names.UnitId.{UnitId};
 ghost use Rattle.adlb_unit.specs.declared.tokens.Token.{Token};
@@ -17,17 +17,17 @@ ghost use Rattle.exhaust_ring.specs.declared.steps.RingStep.TheVariants.{Pass, F
 /// visit but that of the verdict gives one. While a check runs, none starts.
 pub fn ring_laws()
     ensures row { (m : RingModel) (from : Server) (t : Token) → IsTrue (expects m from t) ↔ Expects m from t }
-    ensures reason { (quiet : Bool) (mark activity : ℕ) (fits : Option UnitId) (why : Reason) →
+    ensures reason { (quiet : Bool) (mark activity : ℕ) (fits : Option UnitId) (why : Why) →
         (first_failing quiet mark activity fits ≡ Some why) ↔ IsReason quiet mark activity fits why }
     ensures none { (quiet : Bool) (mark activity : ℕ) (fits : Option UnitId) →
         (first_failing quiet mark activity fits ≡ None) ↔ IsTrue (passes quiet mark activity fits) }
     ensures goes_on { (m : RingModel) (t u : Token) (quiet : Bool) (activity : ℕ) (fits : Option UnitId) →
         ((visited2 m t quiet activity fits).step ≡ Pass u) ↔
         (IsTrue (passes quiet m.ring.mark activity fits) × (u ≡ token t.check 2 t.asked)) }
-    ensures ends { (m : RingModel) (t : Token) (quiet : Bool) (activity : ℕ) (fits : Option UnitId) (why : Reason) →
+    ensures ends { (m : RingModel) (t : Token) (quiet : Bool) (activity : ℕ) (fits : Option UnitId) (why : Why) →
         m.me.0 ≡ 0 → first_failing quiet m.ring.mark activity fits ≡ Some why →
         ((visited2 m t quiet activity fits).step ≡ Ended) × ((visited2 m t quiet activity fits).ring.ring.runs ≡ false) }
-    ensures fails { (m : RingModel) (t : Token) (quiet : Bool) (activity : ℕ) (fits : Option UnitId) (why : Reason) →
+    ensures fails { (m : RingModel) (t : Token) (quiet : Bool) (activity : ℕ) (fits : Option UnitId) (why : Why) →
         m.me.0 ≢ 0 → first_failing quiet m.ring.mark activity fits ≡ Some why →
         (visited2 m t quiet activity fits).step ≡ Fail t why }
     ensures first_wave { (m : RingModel) (t : Token) (quiet : Bool) (activity : ℕ) (parked : List Asker) →

@@ -41,9 +41,9 @@ impl Ring {
     }
 
     /// The token comes a second time: after wave 1 to server 0 (`HasComeBack`), or in wave 2 to another server
-    /// (`IsToTest`). The server makes the tests, in this order: it is quiet, its activity is that of its mark, and no
-    /// free unit there fits a rank of the list, where `fits` is one that does, if any. If all pass, the token goes on in
-    /// wave 2. Otherwise server 0 ends the check, and another server fails with the first test that does
+    /// (`IsToTest`). The server makes three tests, in this order: it is quiet, its activity is that of its mark, and
+    /// no free unit there fits a rank of the list. `fits` is a unit that does, if any. If all pass, the token goes on
+    /// in wave 2. Otherwise server 0 ends the check, and another server fails with the first test that does
     /// (`visited2`).
     pub fn visit2(
         &mut self,

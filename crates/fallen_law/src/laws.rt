@@ -15,13 +15,13 @@ ghost use Rattle.merge_history.specs.Own.{Finals, IsCoreRun, Walks, got, occurre
 ghost use Rattle.actor_desk.specs.Desks.{DeskModel, sent_at};
 ghost use Rattle.fallen_law.specs.Fallen.{Begins, Expects, GoesOn, IsNext, WouldBear};
 
-/// On each link what a journal got is a prefix of what the other sent, if what went through the mailboxes of each begins with
-/// what its journal says, and the receiver's is its own run. So journals of actors that failed compose, too (`links`). Where
-/// journals are a run of all actors, up to whatever moment, an actor that has not ended has a step for the next letter that it
-/// has not got, if the stamp is below its limit. So no letter comes that is not expected (`expected`). Such a run has at most
-/// `8192 * (n + 1)` events if `n` calls were begun in it (`few`). The stamp of the next letter is at most the number of events
-/// (`stamps`). So where the next event of an actor would bear a stamp past the last one that is given, 2^34 calls were begun
-/// (`late`).
+/// On each link what a journal got is a prefix of what the other sent. It is asked that what went through each
+/// mailbox begins with what its journal says, and that the receiver's is its own run. So journals of actors that
+/// failed compose, too (`links`). Let journals be a run of all actors, up to whatever moment. An actor that has not
+/// ended then has a step for the next letter that it has not got, if the stamp is below its limit. So no letter
+/// comes that is not expected (`expected`). Such a run has at most `8192 * (n + 1)` events if `n` calls were begun
+/// in it (`few`). The stamp of the next letter is at most the number of events (`stamps`). So where the next event of an
+/// actor would bear a stamp past the last one that is given, 2^34 calls were begun (`late`).
 pub fn fallen_laws()
     ensures links { (config : Config) (finals : Finals) (me : Actor) (from to : ℕ) (d e : DeskModel) → d.config ≡ config →
         e.config ≡ config → from < actors config → to < actors config → Begins d → Begins e → Walks config finals me e.events →

@@ -17,12 +17,13 @@ none_chosen : (b : Bool) (i : ℕ) → cond b (Some i) None ≡ None → b ≡ f
 none_chosen true i e = absurd cc
 none_chosen false i e = refl
 
+-- if no element passes, the cut is at the end
 pub no_place : {X : Type 0} (p : X → Bool) (xs : List X) → position p xs ≡ None → position_or_len p xs ≡ length xs
 no_place p xs e =
     let le : length xs ≤ position_or_len p xs = ltb-false (position_or_len p xs) (length xs) (none_chosen _ (position_or_len p xs) e) in
     omega (arith, prefix_len-le-length (λ x. not (p x)) xs)
 
--- what stands before the first mark, and what follows it
+-- what comes before the first mark, and what follows it
 pub first_part : (p : ℕ → Bool) (text : List ℕ) (place : ℕ) → position p text ≡ Some place →
     slice_split p text ≡ take place text ∷ slice_split p (drop (place + 1) text)
 first_part p text place e =

@@ -39,14 +39,17 @@ module _ (ds : List Definition) (d : Definition) (name : Name) (same : name_of d
   any_is : list_any (λ e. bytes_eq (name_of e) (name_of d)) ds ≡ is_some o
   any_is = ap (λ n. list_any (named n) ds) same ∙ any_named ds name o (sym is)
 
+  -- a name that is there is defined twice
   pub twice_is : is_some o ≡ true → define_fault ds d ≡ Some Twice
   twice_is some = ap (λ b. cond b (Some Twice) (cond (nat_le definition_limit (length ds)) (Some Many) None)) (any_is ∙ some)
 
+  -- a new name beyond the limit is one definition too many
   pub many_is : is_some o ≡ false → nat_le definition_limit (length ds) ≡ true → define_fault ds d ≡ Some Many
   many_is none many =
       ap (λ b. cond b (Some Twice) (cond (nat_le definition_limit (length ds)) (Some Many) None)) (any_is ∙ none)
       ∙ ap (λ b. cond b (Some Many) None) many
 
+  -- a new name within the limit is fine
   pub fine_is : is_some o ≡ false → nat_le definition_limit (length ds) ≡ false → define_fault ds d ≡ None
   fine_is none few =
       ap (λ b. cond b (Some Twice) (cond (nat_le definition_limit (length ds)) (Some Many) None)) (any_is ∙ none)
@@ -57,6 +60,7 @@ pub record IsNew (ds : List Definition) (d : Definition) : Type 0 where
   pub none : list_any (named (name_of d)) ds ≡ false
   pub few : nat_le definition_limit (length ds) ≡ false
 
+-- a definition that is fine has a new name
 pub new_if_fine : (ds : List Definition) (d : Definition) → define_fault ds d ≡ None → IsNew ds d
 new_if_fine ds d e = at (list_any (named (name_of d)) ds) refl (nat_le definition_limit (length ds)) refl e
   where
@@ -157,9 +161,11 @@ number_more ds d distinct name = at (named name d) refl
         ∙ sym (ap (number_of (ds ++ d ∷ [])) (sym same) ∙ number_here (ds ++ d ∷ []) distinct (length ds) d (last_at ds d))
     at false is = ap (λ b. cond b (Some (length ds)) (number_of ds name)) is ∙ sym (same_number ds d name is)
 
+-- a number at most another passes the test
 pub le_test : (n m : ℕ) → n ≤ m → nat_le n m ≡ true
 le_test n m le = le-leb n m le
 
+-- a number above another fails the test
 pub lt_test : (n m : ℕ) → m < n → nat_le n m ≡ false
 lt_test n m lt = lt-leb n m lt
 

@@ -65,6 +65,7 @@ module _ (flow : List Definition) (values : List (Option ℕ)) (i v : ℕ) (soun
     | inr was ↦ sound j d w at was
   ]
 
+-- a store stays whole after a right value is stored
 pub kept_whole : (flow : List Definition) (old new : Store) (i v : ℕ) → IsWhole flow old → IsItsValue flow (i, v) → IsLaidOut flow new →
     new.values.items ≡ first_stays old.values.items i v → new.next ≡ old.next → Grows old.ready.items new.ready.items → IsWhole flow new
 kept_whole flow old new i v whole right out set next grows = record {

@@ -50,10 +50,12 @@ rule_passed flow values k name op left right h at = record {
   alone = h.alone;
 }
 
+-- if the lets of all definitions are stored, all lets are
 pub all_lets : (flow : List Definition) (values : List (Option ℕ)) (k : ℕ) → HasLetsTo flow values k → length flow ≤ k → HasLets flow values
 all_lets flow values k h past i name v at =
     h.before i name v (omega (arith, past, slice_get_within flow i (Let name v) at)) at
 
+-- at the start no let is stored
 pub no_lets : (flow : List Definition) (values : List (Option ℕ)) → ((i : ℕ) → value_at values i ≡ None) → HasLetsTo flow values 0
 no_lets flow values none = record {
   before = λ i name v below at. absurd (omega (arith, below));

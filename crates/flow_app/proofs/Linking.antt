@@ -24,6 +24,7 @@ inputs_same f g same (Rule name op left right) =
     ap (λ o. let i : Inputs = record { left = o; right = f right } in i) (same left)
     ∙ ap (λ o. let i : Inputs = record { left = g left; right = o } in i) (same right)
 
+-- numberings that agree give the same inputs
 pub all_inputs_same : (f g : Name → Option ℕ) → ((name : Name) → f name ≡ g name) → (ds : List Definition) →
     map (inputs_by f) ds ≡ map (inputs_by g) ds
 all_inputs_same f g same [] = refl
@@ -43,11 +44,13 @@ inside_from flow [] = All-nil (IsInside (length flow))
 inside_from flow (d ∷ ds) =
     All-cons (IsInside (length flow)) (inputs_of flow d) (map (inputs_of flow) ds) (inside_of flow d) (inside_from flow ds)
 
+-- inputs of definitions are within the flow
 pub are_inside : (flow : List Definition) (inputs : List Inputs) → inputs ≡ map (inputs_of flow) flow → AreInside (length inputs) inputs
 are_inside flow inputs is =
     let long : length flow ≡ length inputs = sym (ap length is ∙ length-map flow (inputs_of flow)) in
     subst (λ n. AreInside n inputs) long (subst (AreInside (length flow)) (sym is) (inside_from flow flow))
 
+-- a flow is linked by its inputs and users
 pub linked : (flow : List Definition) (inputs : List Inputs) (users : List (Vec ℕ)) → AreDistinct flow → length flow ≤ definition_limit →
     inputs ≡ map (inputs_of flow) flow → HasUsers (length inputs) inputs users → IsLinked flow inputs users
 linked flow inputs users distinct few is has_users =
@@ -72,6 +75,7 @@ pub record HasUsersTo (n k : ℕ) (inputs : List Inputs) (users : List (Vec ℕ)
   pub within : (i : ℕ) → are_below n (users_at users i) ≡ true
   pub all : (i q : ℕ) (asked : Inputs) → q < k → slice_get inputs q ≡ Some asked → asks asked i ≡ true → has (users_at users i) q ≡ true
 
+-- at the start no rule is noted as a user
 pub users_start : (n : ℕ) (inputs : List Inputs) (users : List (Vec ℕ)) → length users ≡ n → ((i : ℕ) → users_at users i ≡ []) →
     HasUsersTo n 0 inputs users
 users_start n inputs users long none = record {
@@ -80,6 +84,7 @@ users_start n inputs users long none = record {
   all = λ i q asked below at is. absurd (omega (arith, below));
 }
 
+-- if all rules are noted, the users are whole
 pub users_end : (n k : ℕ) (inputs : List Inputs) (users : List (Vec ℕ)) → HasUsersTo n k inputs users → length inputs ≤ k →
     HasUsers n inputs users
 users_end n k inputs users h past = record {

@@ -13,10 +13,11 @@ use Rattle.flow_law.specs.declared.Definition.TheVariants.{Let}
 use Rattle.flow_law.proofs.Turns.{counts_step, distinct_rest, named, there_counts}
 use Rattle.flow_app.specs.Linked.{number_of}
 
--- what stands at a place is in the list, and what is in the list has a place
+-- what is at a place is in the list, and what is in the list has a place
 pub there_at : {X : Type 0} (xs : List X) (i : ℕ) (x : X) → slice_get xs i ≡ Some x → Contains xs x
 there_at xs i x e = (i, slice_get_within xs i x e, get_or_from_slice_get xs i x x e)
 
+-- an element of a list has a place in it
 pub place_of : {X : Type 0} (xs : List X) (x : X) → Contains xs x → (i : ℕ) × (slice_get xs i ≡ Some x)
 place_of xs x there = (there.0, slice_get-get_or xs there.0 x there.1 ∙ ap Some there.2)
 
@@ -49,6 +50,7 @@ number_here flow distinct i d e =
 pub number_inside : (flow : List Definition) (name : Name) (i : ℕ) → number_of flow name ≡ Some i → i < length flow
 number_inside flow name i e = (position-Some (named name) flow i (Let [] 0) e).0
 
+-- the definition at the number of a name has that name
 pub number_named : (flow : List Definition) (name : Name) (i : ℕ) (d : Definition) → number_of flow name ≡ Some i
     → slice_get flow i ≡ Some d →
     name_of d ≡ name
@@ -56,5 +58,6 @@ number_named flow name i d e at =
     let same : get_or flow i d ≡ d = get_or_from_slice_get flow i d d at in
     (bytes_eq-Decides (name_of d) name).0 (ap (named name) (sym same) ∙ (position-Some (named name) flow i d e).1)
 
+-- there is a definition at each place within the flow
 pub definition_at : (flow : List Definition) (i : ℕ) → i < length flow → (d : Definition) × (slice_get flow i ≡ Some d)
 definition_at flow i inside = (get_or flow i (Let [] 0), slice_get-get_or flow i (Let [] 0) inside)

@@ -9,6 +9,7 @@ use Rattle.std.proofs.lemmas.Slice.Eq.{bytes_eq-Decides}
 use Rattle.std.proofs.lemmas.Str.{IsUtf8-from_ascii}
 use Rattle.flow_app.specs.Kinds.{number_in}
 
+-- a number below 2^64 is written as text
 pub is_text : (w : List ℕ) (n : ℕ) → n < 2 ^ 64 → w ≡ decimal n → IsUtf8 w
 is_text w n lt e = subst IsUtf8 (sym e) (IsUtf8-from_ascii (decimal n) (IsAscii-decimal n lt))
 
@@ -24,6 +25,7 @@ none_if : (b : Bool) (n : ℕ) → (b ≡ true → ⊥) → cond b (Some n) None
 none_if true n never = absurd (never refl)
 none_if false n never = refl
 
+-- what is not written as a number below 2^64 cannot be read as one
 pub no_number : (w : List ℕ) → ((n : ℕ) → n < 2 ^ 64 → w ≡ decimal n → ⊥) → number_in w ≡ None
 unfolding number_in
 no_number w none =

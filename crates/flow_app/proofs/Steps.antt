@@ -24,6 +24,7 @@ pub record IsReadTo (bytes : List ℕ) (r : Reading) (left : Parts) (number : �
   pub refused : flow_refused bytes ≡ first_refused r.definitions.items (number + 1) (kinds_of (parts_left left))
   pub room : number + room_left left ≤ length bytes + 1
 
+-- before its first line nothing of the text is read
 pub at_start : (bytes : List ℕ) (r : Reading) (left : Parts) → IsRead r → r.definitions.items ≡ [] →
     parts_left left ≡ slice_split (is_mark 10) bytes → room_left left ≡ length bytes + 1 → IsReadTo bytes r left 0
 at_start bytes r left read none parts room = record {

@@ -102,9 +102,11 @@ has_cases x xs i e = at (x == i) refl e
     at true is e = inl (eqb-true x i is)
     at false is e = inr e
 
+-- what a list has it has after an append
 pub has_append : (xs ys : List ℕ) (i : ℕ) → has xs i ≡ true → has (xs ++ ys) i ≡ true
 has_append xs ys i e = list_any-append (λ x. x == i) xs ys ∙ ap (λ b. b || has ys i) e
 
+-- a list has what is pushed
 pub has_push : (xs : List ℕ) (i : ℕ) → has (xs ++ i ∷ []) i ≡ true
 has_push xs i = list_any-append (λ x. x == i) xs (i ∷ []) ∙ at (has xs i) (i == i) (same i)
   where
@@ -134,6 +136,7 @@ has_append_cases xs ys i e = at (has xs i) refl (sym (list_any-append (λ y. y =
     at true is e = inl is
     at false is e = inr (ap (λ b. b || has ys i) (sym is) ∙ e)
 
+-- what is appended to a list it has from then on
 pub has_later : (xs ys : List ℕ) (i : ℕ) → has ys i ≡ true → has (xs ++ ys) i ≡ true
 has_later xs ys i e = list_any-append (λ x. x == i) xs ys ∙ at (has xs i) (has ys i) e
   where
@@ -147,11 +150,13 @@ set_past [] i o past = refl
 set_past (x ∷ values) zero o past = absurd (omega (arith, past))
 set_past (x ∷ values) (suc i) o past = ap (λ (l : List (Option ℕ)). x ∷ l) (set_past values i o (omega (arith, past)))
 
+-- two tests that pass do so together
 pub both : (b c : Bool) → b ≡ true → c ≡ true → (b && (c && true)) ≡ true
 both true true e f = refl
 both true false e f = absurd (cc)
 both false c e f = absurd (cc)
 
+-- each number of a list passes the test of all of them
 pub below_at : (n : ℕ) (xs : List ℕ) (i d : ℕ) → are_below n xs ≡ true → i < length xs → get_or xs i d < n
 below_at n [] i d e inside = absurd (omega (arith, inside))
 below_at n (x ∷ xs) zero d e inside = ltb-true x n (and_parts (nat_lt x n) (are_below n xs) e).0
@@ -227,7 +232,7 @@ drop_push zero ready rule le = refl
 drop_push (suc next) [] rule le = absurd (omega (arith, le))
 drop_push (suc next) (x ∷ ready) rule le = drop_push next ready rule (omega (arith, le))
 
--- what stands in a list that grew by one, and what stands before it
+-- what is in a list that grew by one, and what comes before it
 pushed_at : (xs : List ℕ) (x k i : ℕ) → slice_get (xs ++ x ∷ []) k ≡ Some i →
     ((slice_get xs k ≡ Some i) × (take k (xs ++ x ∷ []) ≡ take k xs)) ⊎ ((x ≡ i) × (take k (xs ++ x ∷ []) ≡ xs))
 pushed_at [] x zero i at = let same : x ≡ i = cc in inr (same, refl)
@@ -377,10 +382,12 @@ rest_next flow values noted ready next items k inside s =
     let later : suc k ≡ k + 1 = omega arith in
     subst (IsLaid flow values noted ready next) (drop-cons items k 0 inside ∙ ap (λ n. get_or items k 0 ∷ drop n items) later) s
 
+-- an option does not both have a value and lack one
 pub not_both : (o : Option ℕ) → is_some o ≡ true → is_none o ≡ true → ⊥
 not_both None has none = cc
 not_both (Some v) has none = cc
 
+-- an option that does not lack a value has one
 pub some_if : (o : Option ℕ) → is_none o ≡ false → is_some o ≡ true
 some_if None e = absurd (cc)
 some_if (Some v) e = refl

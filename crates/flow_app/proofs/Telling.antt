@@ -73,12 +73,15 @@ all_count worth (d ∷ ds) =
 
 module _ (flow : List Definition) (values : List (Option ℕ)) (long : length values ≡ length flow)
     (same : (i : ℕ) (d : Definition) → slice_get flow i ≡ Some d → value_at values i ≡ value flow (name_of d)) where
+  -- as many values are stored as definitions have one
   pub done_is : count_by (λ v. is_some v) values ≡ done_in flow
   done_is = some_count (λ d. value flow (name_of d)) flow values long same
 
+  -- at most as many values are stored as there are definitions
   pub done_few : count_by (λ v. is_some v) values ≤ length flow
   done_few = omega (arith, done_is, all_count (λ d. value flow (name_of d)) flow)
 
+  -- definitions without a value are those that wait
   pub waits_is : length flow - count_by (λ v. is_some v) values ≡ waits_in flow
   waits_is = omega (arith, done_is, all_count (λ d. value flow (name_of d)) flow)
 

@@ -25,12 +25,14 @@ module _ (users : List (Vec ℕ)) (n rule : ℕ) (v : Vec ℕ) (inside : n < len
   at_n : users_at (slice_set users n v) n ≡ users_at users n ++ rule ∷ []
   at_n = same_at users n v inside ∙ more
 
+  -- the rule is noted as a user of its input
   pub rule_noted : (i : ℕ) → is_number (Some n) i ≡ true → has (users_at (slice_set users n v) i) rule ≡ true
   rule_noted i is =
       let same : n ≡ i = eqb-true n i is in
       subst (λ k. has (users_at (slice_set users n v) k) rule ≡ true) same
       (ap (λ l. has l rule) at_n ∙ has_push (users_at users n) rule)
 
+  -- the users of each input stay noted
   pub others_noted : (i q : ℕ) → has (users_at users i) q ≡ true → has (users_at (slice_set users n v) i) q ≡ true
   others_noted i q is = elim (cases_eq i n) [
     | inl same ↦
@@ -40,6 +42,7 @@ module _ (users : List (Vec ℕ)) (n rule : ℕ) (v : Vec ℕ) (inside : n < len
     | inr other ↦ ap (λ l. has l q) (other_at users n i v other) ∙ is
   ]
 
+  -- users below a number stay so with a rule below it
   pub all_below : (m i : ℕ) → rule < m → are_below m (users_at users i) ≡ true → are_below m (users_at (slice_set users n v) i) ≡ true
   all_below m i below are = elim (cases_eq i n) [
     | inl same ↦

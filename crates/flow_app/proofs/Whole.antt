@@ -61,6 +61,7 @@ module _ (flow : List Definition) (values : List (Option ℕ)) (sound : IsSound 
             | inr not_there ↦ absurd (let e : false ≡ true = not_there in cc)
           ]
 
+      -- in a whole store each name is worth its value
       pub worth_is : (name : Name) → worth_in flow values name ≡ value flow name
       worth_is name =
           same_values (worth_in flow values name) (value flow name)

@@ -27,6 +27,7 @@ by_inputs : (flow : List Definition) (values : List (Option ℕ)) (d : Definitio
 by_inputs flow values (Let name v) = refl
 by_inputs flow values (Rule name op left right) = refl
 
+-- what a definition gives by its inputs' places is what it gives by their names
 pub worth_is : (flow : List Definition) (values : List (Option ℕ)) (place : ℕ) (e : Definition) (asked : Inputs)
     → slice_get flow place ≡ Some e →
     ((d : Definition) → slice_get flow place ≡ Some d → asked ≡ inputs_of flow d) → (d : Definition) → slice_get flow place ≡ Some d →
@@ -34,6 +35,7 @@ pub worth_is : (flow : List Definition) (values : List (Option ℕ)) (place : �
 worth_is flow values place e asked there is d at =
     ap (given_by values asked) (same_definition flow place d e there at) ∙ ap (λ a. given_by values a d) (is d at) ∙ by_inputs flow values d
 
+-- the inputs of a definition are within the flow
 pub inside_is : (flow : List Definition) (n place : ℕ) (e : Definition) (asked : Inputs) → n ≡ length flow → slice_get flow place ≡ Some e →
     ((d : Definition) → slice_get flow place ≡ Some d → asked ≡ inputs_of flow d) → IsInside n asked
 inside_is flow n place e asked long there is =
@@ -44,6 +46,7 @@ ready_by_inputs : (flow : List Definition) (values : List (Option ℕ)) (d : Def
 ready_by_inputs flow values (Let name v) = refl
 ready_by_inputs flow values (Rule name op left right) = refl
 
+-- a definition is ready by its inputs' places exactly if it is by their names
 pub ready_is : (flow : List Definition) (values : List (Option ℕ)) (place : ℕ) (e : Definition) (asked : Inputs)
     → slice_get flow place ≡ Some e →
     ((d : Definition) → slice_get flow place ≡ Some d → asked ≡ inputs_of flow d) → (d : Definition) → slice_get flow place ≡ Some d →
@@ -52,6 +55,7 @@ ready_is flow values place e asked there is d at =
     ap (ready_from values asked) (same_definition flow place d e there at) ∙ ap (λ a. ready_from values a d) (is d at)
     ∙ ready_by_inputs flow values d
 
+-- with its value stored, a let is one of those stored so far
 pub lets_after : (flow : List Definition) (values new : List (Option ℕ)) (place : ℕ) (e : Definition) (v : ℕ)
     → HasLetsTo flow values place →
     place < length values → slice_get flow place ≡ Some e → own_value e ≡ Some v → new ≡ slice_set values place (Some v) →
@@ -62,6 +66,7 @@ lets_after flow values new place (Let name w) v lets inside there own set =
     (let_stored flow values place name v lets (there ∙ ap (λ z. let o : Option Definition = Some (Let name z) in o) same) inside)
 lets_after flow values new place (Rule name op left right) v lets inside there own set = absurd (cc)
 
+-- a definition without a value of its own is passed
 pub lets_passed : (flow : List Definition) (values : List (Option ℕ)) (place : ℕ) (e : Definition) → HasLetsTo flow values place →
     slice_get flow place ≡ Some e → own_value e ≡ None → HasLetsTo flow values (place + 1)
 lets_passed flow values place (Let name v) lets there own = absurd (cc)
@@ -92,13 +97,16 @@ noted_gives flow values noted ready next place s inside is_in none =
 
 -- Lists that grow.
 
+-- a list that stays grows
 pub grows_not : (l : List ℕ) → Grows l l
 grows_not l = ([], sym (append-nil l))
 
+-- growth of a list that grew is growth of the first
 pub grows_more : (a b c : List ℕ) → Grows a b → Grows b c → Grows a c
 grows_more a b c first second =
     (first.0 ++ second.0, second.1 ∙ ap (λ (l : List ℕ). l ++ second.0) first.1 ∙ append_assoc a first.0 second.0)
 
+-- a list that grew has the old elements at their places
 pub grown_at : (old new : List ℕ) (i d : ℕ) → Grows old new → i < length old → get_or new i d ≡ get_or old i d
 grown_at old new i d grows inside = ap (λ l. get_or l i d) grows.1 ∙ front old grows.0 i inside
   where
@@ -107,5 +115,6 @@ grown_at old new i d grows inside = ap (λ l. get_or l i d) grows.1 ∙ front ol
     front (x ∷ xs) ys zero inside = refl
     front (x ∷ xs) ys (suc i) inside = front xs ys i (omega (arith, inside))
 
+-- a list that grew is no shorter
 pub grown_long : (old new : List ℕ) → Grows old new → length old ≤ length new
 grown_long old new grows = omega (arith, ap length grows.1, length-append old grows.0)

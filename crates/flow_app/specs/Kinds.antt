@@ -12,7 +12,7 @@ use Rattle.flow_law.specs.declared.Op.TheVariants.{Add, Mul, Min, Max, Xor}
 use Rattle.flow_app.specs.declared.faults.FlowWhy.{FlowWhy}
 use Rattle.flow_app.specs.declared.faults.FlowWhy.TheVariants.{Long, Form}
 
--- a line is skipped, it is a definition, or it is refused wherever it stands
+-- a line is skipped, it is a definition, or it is refused wherever it is
 pub data Kind : Type 0 where
   skipped : Kind
   defines : Definition → Kind
@@ -30,6 +30,7 @@ is_mark mark byte = byte == mark
 abbrev pub is_letter : ℕ → Bool
 is_letter byte = nat_le 97 byte && nat_le byte 122
 
+-- the name that a word is: 1 to 16 letters
 unfoldable pub name_in : List ℕ → Option Name
 name_in word = if (length word == 0) || nat_lt 16 (length word) then None else (if list_all is_letter word then Some word else None)
 
@@ -40,6 +41,7 @@ number_in word =
     then Some (digits_value 10 word)
     else None
 
+-- the operation that a word is
 unfoldable pub op_in : List ℕ → Option Op
 op_in word =
     if bytes_eq word (codes "add") then Some Add
@@ -54,6 +56,7 @@ abbrev pub let_with : Option Name → Option ℕ → Option Definition
 let_with (Some name) (Some value) = Some (Let name value)
 let_with name value = None
 
+-- a rule of its parts, if all are there
 abbrev pub rule_with : Option Name → Option Op → Option Name → Option Name → Option Definition
 rule_with (Some name) (Some op) (Some left) (Some right) = Some (Rule name op left right)
 rule_with name op left right = None
@@ -63,10 +66,12 @@ abbrev pub let_in : List (List ℕ) → Option Definition
 let_in (name ∷ value ∷ []) = let_with (name_in name) (number_in value)
 let_in words = None
 
+-- the rule of the words after `rule`
 abbrev pub rule_in : List (List ℕ) → Option Definition
 rule_in (name ∷ op ∷ left ∷ right ∷ []) = rule_with (name_in name) (op_in op) (name_in left) (name_in right)
 rule_in words = None
 
+-- the definition of the words of a line
 unfoldable pub definition_in : List (List ℕ) → Option Definition
 definition_in [] = None
 definition_in (first ∷ words) =
@@ -74,6 +79,7 @@ definition_in (first ∷ words) =
     else if bytes_eq first (codes "rule") then rule_in words
     else None
 
+-- the kind of a line by its definition
 abbrev pub form_kind : Option Definition → Kind
 form_kind (Some d) = defines d
 form_kind None = bad Form
@@ -84,5 +90,6 @@ short_kind line =
     if (length line == 0) || (slice_index line 0 == 35) then skipped
     else form_kind (definition_in (slice_split (is_mark 32) line))
 
+-- the kind of a line
 unfoldable pub kind_of : List ℕ → Kind
 kind_of line = if nat_lt line_limit (length line) then bad Long else short_kind line

@@ -27,6 +27,7 @@ abbrev pub inputs_by : (Name → Option ℕ) → Definition → Inputs
 inputs_by number (Let name value) = record { left = None; right = None }
 inputs_by number (Rule name op left right) = record { left = number left; right = number right }
 
+-- the inputs of a definition, by number
 abbrev pub inputs_of : List Definition → Definition → Inputs
 inputs_of flow d = inputs_by (number_of flow) d
 
@@ -35,6 +36,7 @@ abbrev pub is_number : Option ℕ → ℕ → Bool
 is_number None i = false
 is_number (Some n) i = n == i
 
+-- a rule with these inputs asks for the number
 abbrev pub asks : Inputs → ℕ → Bool
 asks inputs i = is_number inputs.left i || is_number inputs.right i
 
@@ -43,6 +45,7 @@ abbrev pub items_of : Option (Vec ℕ) → List ℕ
 items_of None = []
 items_of (Some v) = v.items
 
+-- the rules that ask for the number
 abbrev pub users_at : List (Vec ℕ) → ℕ → List ℕ
 users_at users i = items_of (slice_get users i)
 

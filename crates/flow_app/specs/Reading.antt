@@ -9,8 +9,8 @@ use Rattle.flow_app.specs.declared.faults.FlowWhy.{FlowWhy}
 use Rattle.flow_app.specs.declared.faults.FlowWhy.TheVariants.{Twice, Many}
 use Rattle.flow_app.specs.Kinds.{Kind, skipped, defines, bad, is_mark, kind_of}
 
--- the lines, each without the one carriage return at its end, if it has one: a line feed ends a line, and what follows the last line
--- feed is a line too, which may be empty
+-- The lines, each without the one carriage return at its end, if it has one. A line feed ends a line; what follows the last line feed is a
+-- line too, which may be empty.
 abbrev pub lines : List ℕ → List (List ℕ)
 lines bytes = map strip_carriage_return (slice_split (is_mark 10) bytes)
 
@@ -30,6 +30,7 @@ define_fault before d =
     else if nat_le definition_limit (length before) then Some Many
     else None
 
+-- why a line is refused after these definitions, if it is
 abbrev pub fault_of : List Definition → Kind → Option FlowWhy
 fault_of before skipped = None
 fault_of before (defines d) = define_fault before d
@@ -40,10 +41,12 @@ abbrev pub or_later : Option FlowWhy → ℕ → Option (ℕ × FlowWhy) → Opt
 or_later (Some why) n later = Some (n, why)
 or_later None n later = later
 
+-- the first line that is refused, with its reason
 unfoldable pub first_refused : List Definition → ℕ → List Kind → Option (ℕ × FlowWhy)
 first_refused before n [] = None
 first_refused before n (kind ∷ kinds) = or_later (fault_of before kind) n (first_refused (before ++ defined kind) (n + 1) kinds)
 
+-- the definitions of lines
 unfoldable pub all_defined : List Kind → List Definition
 all_defined [] = []
 all_defined (kind ∷ kinds) = defined kind ++ all_defined kinds
@@ -52,8 +55,10 @@ all_defined (kind ∷ kinds) = defined kind ++ all_defined kinds
 abbrev pub kinds : List ℕ → List Kind
 kinds bytes = map kind_of (lines bytes)
 
+-- the flow of an input
 abbrev pub input_flow : List ℕ → List Definition
 input_flow bytes = all_defined (kinds bytes)
 
+-- the first line of an input that is refused
 abbrev pub flow_refused : List ℕ → Option (ℕ × FlowWhy)
 flow_refused bytes = first_refused [] 1 (kinds bytes)

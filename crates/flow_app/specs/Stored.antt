@@ -15,6 +15,7 @@ use Rattle.flow_app.specs.Linked.{are_below, has, number_of}
 abbrev pub value_at : List (Option ℕ) → ℕ → Option ℕ
 value_at values i = slice_index_or values i None
 
+-- the value of an input, if it has one
 abbrev pub value_of : List (Option ℕ) → Option ℕ → Option ℕ
 value_of values None = None
 value_of values (Some i) = value_at values i
@@ -28,10 +29,12 @@ abbrev pub own_value : Definition → Option ℕ
 own_value (Let name v) = Some v
 own_value (Rule name op left right) = None
 
+-- what a definition gives by the values of its inputs
 abbrev pub given_by : List (Option ℕ) → Inputs → Definition → Option ℕ
 given_by values asked (Let name v) = Some v
 given_by values asked (Rule name op left right) = joined op (value_of values asked.left) (value_of values asked.right)
 
+-- the rule of this number is noted
 abbrev pub is_noted : List Bool → ℕ → Bool
 is_noted noted i = slice_index_or noted i false
 
@@ -50,8 +53,8 @@ pub record HasLetsTo (flow : List Definition) (values : List (Option ℕ)) (k : 
   pub fresh : (i : ℕ) (name : Name) (v : ℕ) → k ≤ i → slice_get flow i ≡ Some (Let name v) → value_at values i ≡ None
   pub alone : AreLetsAlone flow values
 
--- What is right whatever the values are: each rule whose inputs have values is noted, but for those of `rest`, which may not be noted
--- yet; and what is ready is what is noted, each once.
+-- What is right whatever the values are: each rule whose inputs have values is noted, but for those of `rest`, which may follow. What is
+-- ready is what is noted, each once.
 pub record IsLaid (flow : List Definition) (values : List (Option ℕ)) (noted : List Bool) (ready : List ℕ) (next : ℕ)
     (rest : List ℕ) : Type 0 where
   pub long : length values ≡ length flow
@@ -66,6 +69,7 @@ pub record IsLaid (flow : List Definition) (values : List (Option ℕ)) (noted :
   pub grounded : (i : ℕ) (d : Definition) → slice_get flow i ≡ Some d → is_noted noted i ≡ true
       → is_some (gives (worth_in flow values) d) ≡ true
 
+-- the store is laid out for the flow, but for these rules
 abbrev pub Lays : List Definition → Store → List ℕ → Type 0
 Lays flow s rest = IsLaid flow s.values.items s.noted.items s.ready.items s.next rest
 
@@ -109,10 +113,12 @@ IsDrained s = length s.ready.items ≤ s.next
 
 -- What a rule does with the values of its inputs, if both have values.
 
+-- the rule with its inputs, if both have values
 abbrev pub made_ready : Op → Option ℕ → Option ℕ → Option ReadyRule
 made_ready op (Some a) (Some b) = Some (record { op = op; left = a; right = b })
 made_ready op a b = None
 
+-- the rule of a definition with its inputs, if both are worth a value
 abbrev pub ready_by : (Name → Option ℕ) → Definition → Option ReadyRule
 ready_by worth (Let name v) = None
 ready_by worth (Rule name op left right) = made_ready op (worth left) (worth right)

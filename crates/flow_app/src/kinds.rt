@@ -12,7 +12,7 @@ use flow_law::Definition;
 /// The most bytes of a line.
 const LINE_LIMIT: usize = 1 << 20;
 
-/// A definition, and its name as it stands in the line.
+/// A definition, and its name as it is in the line.
 #[derive(Drop)]
 pub(crate) struct Named<'a> {
     pub(crate) name: &'a [u8],
@@ -25,7 +25,7 @@ pub(crate) enum Line<'a> {
     /// It is empty or a comment.
     Skipped,
     Defines(Named<'a>),
-    /// It is refused wherever it stands.
+    /// It is refused wherever it is.
     Bad(FlowWhy),
 }
 

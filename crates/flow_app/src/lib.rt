@@ -1,8 +1,8 @@
 //! Flows: named values and rules, read from bytes, worked, and told as text.
 //!
-//! `flow_law` says what a flow is and what its names are worth. `specs/Kinds.antt` says what a line of a flow is,
-//! `specs/Reading.antt` which flow the lines of an input are and which line is refused first, `specs/Stored.antt` what a store
-//! holds, and `specs/Finishing.antt` what the values that ranks bring are to be.
+//! `flow_law` says what a flow is and what its names are worth. `specs/Kinds.antt` says what a line of a flow is, and
+//! `specs/Reading.antt` which flow the lines of an input are and which line is refused first. `specs/Stored.antt`
+//! says what a store holds, and `specs/Finishing.antt` what the values that ranks bring are to be.
 #![tactic(auto)]
 
 mod faults;

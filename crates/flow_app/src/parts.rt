@@ -1,4 +1,4 @@
-//! What stands between marks: the lines of an input, and the words of a line.
+//! What is between marks: the lines of an input, and the words of a line.
 
 ghost use Rattle.std.specs.Prelude.{◌≡◌, ◌==◌, ◌+◌, ◌<◌, ◌∷◌, [], ⊤, length, position, MatchOption};
 ghost use Rattle.std.specs.List.{slice_split};

@@ -31,9 +31,11 @@ module _ (flow : List Definition) (r : Reported FlowOutcome) (run : HasRun ArePr
         there = e.outcome_is;
       }
 
+  -- the run is one over this flow
   pub flows_run : IsFlowsRun r.config r.ledger flow r.outcomes
   flows_run = record { each = rank_run; all = run.outcomes }
 
+  -- the run has a rank
   pub some_ranks : 0 < r.config.ranks
   some_ranks = omega (arith, r.config.ranks_within.0)
 

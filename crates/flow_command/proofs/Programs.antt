@@ -29,6 +29,7 @@ first_program ranks flow p of is = record {
       placed_more (IsProgramOf ranks flow) [] p (record { ranks_are = of; flow_is = is }) (λ k x none. absurd cc) rank.0 q at;
 }
 
+-- programs are those of the ranks with one more that has no flow
 pub more_programs : (ranks : ℕ) (flow : List Definition) (programs : List FlowProgram) (p : FlowProgram) → 0 < length programs →
     p.ranks ≡ ranks → p.flow ≡ None → ArePrograms ranks flow programs → ArePrograms ranks flow (programs ++ p ∷ [])
 more_programs ranks flow programs p some of none are =

@@ -25,11 +25,12 @@ ghost use Rattle.flow_command.specs.Flows.{ArePrograms, FollowsFlow};
 
 use values_law::value_laws;
 
-/// What follows of a source that tells its bytes, if no read failed. An accepted input is answered, if no write failed and no start was
-/// refused either (`complete`). A refused one is refused at its first such line (`refused`). One that is too long is told as such
-/// (`overlong`). Memory may fail each time. Besides, only the stamps can end. Of the ledger that is kept: it enters each rule once at most,
-/// by rank 0, with the values of its inputs (`entered`), each of which was known to rank 0 in its calls before (`known`); and it enters
-/// each rule that has a value, if no put of an answer was rejected on another rank (`all_entered`).
+/// What follows of a source that tells its bytes, if no read failed. An accepted input is answered, if no write
+/// failed and no start was refused either (`complete`). A refused one is refused at its first such line (`refused`).
+/// One that is too long is told as such (`overlong`). Memory may fail each time. Besides, only the stamps can end.
+/// The ledger that is kept enters each rule once at most, by rank 0, with the values of its inputs (`entered`). Each
+/// of these was known to rank 0 in its calls before (`known`). It enters each rule that has a value, if no put of an
+/// answer was rejected on another rank (`all_entered`).
 pub fn flow_laws()
     ensures complete { (before after : Scene) (fault : Option (Fault FlowWhy)) (kept : Option (Kept FlowOutcome)) (bytes : List ℕ) →
         EndsWith before after fault kept → before.left ≡ Some bytes → (Rises before.reads after.reads → ⊥) →

@@ -2,9 +2,9 @@
 //!
 //!     let ended = flow(alloc, config, &mut input, &mut output, &mut threads, FreeGate {});
 //!
-//! `Flows` is a command of `run_command`: it asks for the flow of an input (`flow_app`), which the programs of `flow_work` compute, and
-//! tells the values of its names, which their outcomes bring (`values_law`). `specs/Flows.antt` says what is asked, run and told, and
-//! `specs/Ends.antt` how `flow` ends.
+//! `Flows` is a command of `run_command`. It asks for the flow of an input (`flow_app`), which the programs of
+//! `flow_work` compute. It tells the values of its names, which their outcomes bring (`values_law`).
+//! `specs/Flows.antt` says what is asked, run and told, and `specs/Ends.antt` how `flow` ends.
 #![tactic(auto)]
 
 mod flowing;

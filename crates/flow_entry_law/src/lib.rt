@@ -14,8 +14,9 @@ ghost use Rattle.flow_run_law.specs.Puts.{AreTaken, IsFlowRun};
 ghost use Rattle.flow_run_law.specs.Units.{AreForms, Forms, HasTypes};
 ghost use Rattle.flow_entry_law.specs.Entries.{AreAllEntered, AreEntered};
 
-/// In a legal run in which each rank ran the flow program and then finished: the ledger enters each rule once at most, by rank 0, with
-/// the values of its inputs; and it enters each rule that has a value, if no put of an answer was rejected on another rank.
+/// Of a legal run in which each rank ran the flow program and then finished. The ledger enters each rule once at
+/// most, by rank 0, with the values of its inputs. It enters each rule that has a value, if no put of an answer was
+/// rejected on another rank.
 pub fn entry_laws()
     ensures entered { (F : Forms) (config : Config) (ledger : List Entry) → 0 < config.ranks → AreForms config.ranks F →
         (flow : List Definition) → IsFlowRun F config ledger flow → (last : Bag) → IsRun (start config) ledger last →

@@ -14,6 +14,7 @@ use Rattle.flow_law.specs.declared.Op.{Op}
 
 -- What names are worth.
 
+-- what each name is worth, if anything
 abbrev pub Worth : Type 0
 Worth = Name → Option ℕ
 
@@ -34,6 +35,7 @@ inputs_of op (Some a) (Some b) v e = record { a = a; b = b; left = refl; right =
 inputs_of op None y v e = absurd (cc)
 inputs_of op (Some a) None v e = absurd (cc)
 
+-- a definition that has a value has it still where more names have theirs
 pub gives_more : (less more : Worth) → IsMore more less → (d : Definition) (v : ℕ) → gives less d ≡ Some v → gives more d ≡ Some v
 gives_more less more knows (Let name w) v e = e
 gives_more less more knows (Rule name op left right) v e =
@@ -47,6 +49,7 @@ by_name : (b : Bool) (x y z w : Option ℕ) (v : ℕ) → (x ≡ Some v → z �
 by_name true x y z w v first later e = first e
 by_name false x y z w v first later e = later e
 
+-- a flow looked up where more is known gives more
 pub looked_more : (less more : Worth) → IsMore more less → (flow : List Definition) → IsMore (looked_up more flow) (looked_up less flow)
 unfolding looked_up
 looked_more less more knows [] name v e = e
@@ -61,6 +64,7 @@ module _ (flow : List Definition) where
   turn_more zero name v e = absurd (cc)
   turn_more (suc k) name v e = looked_more (turn flow k) (turn flow (suc k)) (turn_more k) flow name v e
 
+  -- what is known after some turns is known after more
   pub turn_later : (k more : ℕ) → IsMore (turn flow (more + k)) (turn flow k)
   turn_later k zero name v e = rw (zero_plus k) e
     where
@@ -107,6 +111,7 @@ module _ (flow : List Definition) where
 abbrev known : Worth → Definition → Bool
 known worth d = is_some (worth (name_of d))
 
+-- an option that is not empty has a value
 pub some_of : (o : Option ℕ) → is_some o ≡ true → (v : ℕ) × (o ≡ Some v)
 some_of (Some v) e = (v, refl)
 some_of None e = absurd (cc)
@@ -223,6 +228,7 @@ module _ (flow : List Definition) where
 
 -- The two forms.
 
+-- an element of a list is its head or in its tail
 pub contains_cases : (y x : Definition) (xs : List Definition) → Contains (y ∷ xs) x → (y ≡ x) ⊎ Contains xs x
 contains_cases y x xs there = at there.0 there.1 there.2
   where
@@ -230,13 +236,16 @@ contains_cases y x xs there = at there.0 there.1 there.2
     at zero below is = inl is
     at (suc k) below is = inr (k, omega arith, is)
 
+-- whether a definition has the name
 abbrev pub named : Name → Definition → Bool
 named name d = bytes_eq (name_of d) name
 
+-- a head with the name counts one, any other nothing
 pub counts_step : (name : Name) (y : Definition) (xs : List Definition) →
     count_by (named name) (y ∷ xs) ≡ cond (named name y) 1 0 + count_by (named name) xs
 counts_step name y xs = sum_by-cons (λ d. cond (named name d) 1 0) y xs
 
+-- a definition that is there is counted by its name
 pub there_counts : (xs : List Definition) (d : Definition) → Contains xs d → 1 ≤ count_by (named (name_of d)) xs
 there_counts [] d there = absurd (omega (arith, there.1))
 there_counts (y ∷ xs) d there = elim (contains_cases y d xs there) [
@@ -247,6 +256,7 @@ there_counts (y ∷ xs) d there = elim (contains_cases y d xs there) [
   | inr later ↦ omega (arith, there_counts xs d later, counts_step (name_of d) y xs)
 ]
 
+-- without its first definition a flow has distinct names still
 pub distinct_rest : (y : Definition) (xs : List Definition) → AreDistinct (y ∷ xs) → AreDistinct xs
 distinct_rest y xs distinct name = omega (arith, distinct name, counts_step name y xs)
 
@@ -293,6 +303,7 @@ at_turn flow distinct _ _ (ruled name op left right a b there l r) =
     swap : (m k : ℕ) → m + k ≡ k + m
     swap m k = omega arith
 
+-- a value that a name has is found in as many turns as there are definitions
 pub has_turn : (flow : List Definition) → AreDistinct flow → (name : Name) (v : ℕ) → HasValue flow name v → value flow name ≡ Some v
 has_turn flow distinct name v h = let t = at_turn flow distinct name v h in enough flow t.k name v t.is
 
@@ -323,6 +334,7 @@ looked_has flow worth has (d ∷ part) among name v e =
         subst (λ n. HasValue flow n v) same (gives_has flow worth has d v (among d (0, omega arith, refl)) here)
     at false is on = on (ap (λ b. cond b (gives worth d) (looked_up worth part name)) is ∙ e)
 
+-- a value found in some turn is one that the name has
 pub turn_has : (flow : List Definition) (k : ℕ) (name : Name) (v : ℕ) → turn flow k name ≡ Some v → HasValue flow name v
 unfolding turn
 turn_has flow zero name v e = absurd (cc)

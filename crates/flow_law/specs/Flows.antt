@@ -61,6 +61,7 @@ value flow name = turn flow (length flow) name
 
 -- The output.
 
+-- how a worth is written
 abbrev pub told : Option ℕ → List ℕ
 told None = codes " waits"
 told (Some v) = codes " = " ++ decimal v
@@ -73,6 +74,7 @@ line_of flow d = name_of d ++ told (value flow (name_of d)) ++ codes "\n"
 abbrev pub done_in : List Definition → ℕ
 done_in flow = count_by (λ d. is_some (value flow (name_of d))) flow
 
+-- how many names have no value
 abbrev pub waits_in : List Definition → ℕ
 waits_in flow = count_by (λ d. is_none (value flow (name_of d))) flow
 

@@ -109,8 +109,8 @@ impl Definition {
     }
 }
 
-/// Of definitions of distinct names: a name is worth a value by the rule if and only if it is in as many turns as there are
-/// definitions, so it has one value at most. No later turn finds more.
+/// Of definitions of distinct names: a name is worth a value by the rule exactly if it has it after as many turns as
+/// there are definitions. So it has one value at most. No later turn finds more.
 pub fn flow_laws()
     ensures values { (flow : List Definition) → AreDistinct flow → (name : Name) (v : ℕ) →
         (value flow name ≡ Some v) ↔ HasValue flow name v }

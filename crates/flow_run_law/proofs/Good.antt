@@ -27,6 +27,7 @@ use Rattle.flow_run_law.specs.Puts.{IsRightDesk}
 
 -- Units are told apart.
 
+-- the number of an operation
 abbrev pub op_number : Op → ℕ
 op_number Add = 1
 op_number Mul = 2
@@ -42,6 +43,7 @@ same_op Max Max e = refl
 same_op Xor Xor e = refl
 same_op _ _ e = absurd (omega arith)
 
+-- whether two units of a flow are equal
 abbrev pub same_unit : FlowUnit → FlowUnit → Bool
 same_unit (Rule i x a b) (Rule j y c d) = (i == j) && ((op_number x == op_number y) && ((a == c) && (b == d)))
 same_unit (Answer i v) (Answer j w) = (i == j) && (v == w)
@@ -54,6 +56,7 @@ both false d e = absurd (cc)
 both_of : (b d : Bool) → b ≡ true → d ≡ true → (b && d) ≡ true
 both_of b d e f = ap (λ x. x && d) e ∙ f
 
+-- units of a flow that pass the test are equal
 pub exact_unit : (x y : FlowUnit) → same_unit x y ≡ true → x ≡ y
 exact_unit (Rule i x a b) (Rule j y c d) e =
     let p = both (i == j) ((op_number x == op_number y) && ((a == c) && (b == d))) e in
@@ -67,6 +70,7 @@ exact_unit (Answer i v) (Answer j w) e =
 exact_unit (Rule i x a b) (Answer j w) e = absurd (cc)
 exact_unit (Answer i v) (Rule j y c d) e = absurd (cc)
 
+-- a unit of a flow passes the test with itself
 pub itself : (x : FlowUnit) → same_unit x x ≡ true
 itself (Rule i x a b) =
     both_of (i == i) ((op_number x == op_number x) && ((a == a) && (b == b))) (eq-eqb i i refl)
@@ -86,6 +90,7 @@ there_at (y ∷ xs) zero x e = let same : y ≡ x = cc in (0, omega arith, same)
 there_at (y ∷ xs) (suc i) x e = let t = there_at xs i x e in (suc t.0, omega (arith, t.1), t.2)
 
 module _ (f : List Definition) where
+  -- a stored value is that of its rule
   abbrev pub IsGoodPair : ℕ × ℕ → Type 0
   IsGoodPair x = IsGoodAnswer f x.0 x.1
 
@@ -98,6 +103,7 @@ module _ (f : List Definition) where
       let same : g.name ≡ name = cc in
       subst (λ n. HasValue f n v) same g.of
 
+  -- a rule that is ready over right values carries right values
   pub ready_good : (stored : List (ℕ × ℕ)) (i : ℕ) (op : Op) (a b : ℕ) → All IsGoodPair stored → IsReady f stored i op a b →
       IsGoodRule f i op a b
   ready_good stored i op a b good r = record {
@@ -130,9 +136,11 @@ module _ (f : List Definition) where
 module _ (F : Forms) (is : IsWork (flows (untargeted F))) (f : List Definition) (flow : Option (List Definition))
     (of_flow : (g : List Definition) → flow ≡ Some g → g ≡ f)
   where
+    -- how often a call sends the unit
     abbrev pub counts_sent : FlowUnit → Said → ℕ
     counts_sent u s = count_by (reads (flows (untargeted F)) is (is_unit u)) (parcel_sent None s.call s.answer)
 
+    -- how often a call gets the unit
     abbrev pub counts_got : FlowUnit → Option UnitNote → Said → ℕ
     counts_got u held s = count_by (reads (flows (untargeted F)) is (is_unit u)) (parcel_got held s.call s.answer)
 
@@ -202,6 +210,7 @@ module _ (F : Forms) (is : IsWork (flows (untargeted F))) (f : List Definition) 
         IsReady f stored i op a b
     at_flow g stored i op a b e r = subst (λ h. IsReady h stored i op a b) (of_flow g e) r
 
+    -- a call that gets right units keeps the desk right, and puts right units
     pub stays_right : (d : Desk) (s : Said) (next : Desk) → IsRightDesk f d → ((u : FlowUnit) → 1 ≤ counts_got u d.held s → IsGood f u) →
         Moves F flow d s next → StaysRight d s next
     stays_right d s next right gets (rule_taken g i op a b e free ready new fits said left) =
@@ -325,10 +334,12 @@ module _ (F : Forms) (is : IsWork (flows (untargeted F))) (f : List Definition) 
 
     -- All calls.
 
+    -- the desk is right at the end, and each unit put is right
     pub record AllRight (said : List Said) (last : Desk) : Type 0 where
       pub right : IsRightDesk f last
       pub puts : (u : FlowUnit) → 1 ≤ count_by (reads (flows (untargeted F)) is (is_unit u)) (sent None said) → IsGood f u
 
+    -- a rank that gets right units keeps, stores and puts right ones
     pub all_right : (d : Desk) (said : List Said) (last : Desk) → IsRightDesk f d →
         ((u : FlowUnit) → 1 ≤ count_by (reads (flows (untargeted F)) is (is_unit u)) (got d.held said) → IsGood f u)
         → Goes F flow d said last →

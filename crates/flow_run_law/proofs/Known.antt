@@ -199,6 +199,7 @@ module _ (F : Forms) (is : IsWork (flows (untargeted F))) (f : List Definition) 
       let same : g ≡ f = cc in
       subst (λ h. IsReady h stored i op a b) same ready
 
+  -- a rule that is put is ready over what the desk has stored
   pub put_ready : (d : Desk) (s : Said) (next : Desk) (i : ℕ) (op : Op) (a b : ℕ) (x : Reply) → F.fits (Rule i op a b) ≡ true →
       s ≡ said_of (put_of (flows F) (Rule i op a b)) x → Moves F (Some f) d s next → IsReady f d.stored i op a b
   put_ready d s next i op a b x its put (rule_taken g j oq p q e free ready new fits is_said left) =

@@ -85,6 +85,7 @@ module _ (F : Forms) (config : Config) (ledger : List Entry) (some : 0 < config.
     is : IsWork (flows (untargeted F))
     is = is_work config.ranks F forms
 
+    -- the ranks of a run over flows are orderly
     pub are_orderly : AreOrderly config ledger
     are_orderly rank below =
         let w = each rank below in
@@ -98,9 +99,11 @@ module _ (F : Forms) (config : Config) (ledger : List Entry) (some : 0 < config.
           front_of (λ (s : Said). IsEndedWell s.call s.answer) (each rank below).said finish
           (subst (All (λ (s : Said). IsEndedWell s.call s.answer)) (each rank below).calls_are all)
 
+      -- the store of each rank holds right values at the end
       pub right : (rank : Rank) (below : rank.0 < config.ranks) → IsRightDesk flow (each rank below).last
       right rank below = ends_right F is config ledger last some forms.aimed legal flow each rank below
 
+      -- rank 0 puts each rule once at most
       pub once : IsOnce (rules_in F (calls config ledger (record { 0 = 0 })))
       once =
           let w = each (record { 0 = 0 }) some in
@@ -109,6 +112,7 @@ module _ (F : Forms) (config : Config) (ledger : List Entry) (some : 0 < config.
           noted.put ∙ sym (ap (rules_in F) w.calls_are ∙ rules_end F w.said) in
           subst IsOnce put (noted.once (λ i. omega arith))
 
+      -- rank 0 puts a rule only after it knows the values of its inputs
       pub known : (front : List Said) (s : Said) (back : List Said) (i : ℕ) (op : Op) (a b : ℕ) (x : Answer) →
           F.fits (Rule i op a b) ≡ true →
           s ≡ said_of (put_of (flows F) (Rule i op a b)) x → calls config ledger (record { 0 = 0 }) ≡ front ++ s ∷ back →
@@ -152,6 +156,7 @@ module _ (F : Forms) (config : Config) (ledger : List Entry) (some : 0 < config.
           ap (count_by (reads (flows (untargeted F)) is (is_unit u))) all in
           got_right F is config ledger last some forms.aimed legal flow each (record { 0 = 0 }) some u (omega (arith, counts, sums, more))
 
+      -- rank 0 puts each rule with the values that its inputs have in the flow
       pub values : (front : List Said) (s : Said) (back : List Said) (i : ℕ) (op : Op) (a b : ℕ) (x : Answer) →
           F.fits (Rule i op a b) ≡ true →
           s ≡ said_of (put_of (flows F) (Rule i op a b)) x → calls config ledger (record { 0 = 0 }) ≡ front ++ s ∷ back →
@@ -175,6 +180,7 @@ module _ (F : Forms) (config : Config) (ledger : List Entry) (some : 0 < config.
                 )
           ]
 
+      -- if no put of an answer is rejected on another rank, rank 0 puts each rule that has a value
       pub complete : HasTypes F → AreDistinct flow → AreTaken F config ledger →
           (i : ℕ) (name : Name) (op : Op) (left right : Name) (v : ℕ) →
           IsRule flow i name op left right → HasValue flow name v → Contains (rules_in F (calls config ledger (record { 0 = 0 }))) i

@@ -99,6 +99,7 @@ module _ (F : Forms) (is : IsWork (flows (untargeted F))) (flow : Option (List D
     pub put : last.put ≡ d.put ++ rules_in F said
     pub once : IsOnce d.put → IsOnce last.put
 
+  -- the rules put in calls that ended well are noted, each once
   pub all_noted : (d : Desk) (said : List Said) (last : Desk) → All (λ (s : Said). IsEndedWell s.call s.answer) said →
       Goes F flow d said last →
       AllNoted d said last

@@ -14,6 +14,7 @@ use Rattle.flow_run_law.specs.Units.{Answer as Told, FlowUnit, Forms, Rule, flow
 use Rattle.flow_run_law.specs.Desk.{Desk, Goes, Moves, again_refused, again_stopped, again_taken, answer_refused, answer_stopped}
 use Rattle.flow_run_law.specs.Desk.{answer_taken, brought, fetched, granted, refused, rule_refused, rule_stopped, rule_taken, told, unit_of}
 
+-- the answer ends the work
 abbrev pub is_end : Answer → Bool
 is_end (answers.Ended end) = true
 is_end _ = false
@@ -29,6 +30,7 @@ end_behind (answers.Ended end) batch said on is_end is = is
 end_behind _ batch said on is_end is = absurd (cc)
 
 module _ (F : Forms) (is : IsWork (flows (untargeted F))) (flow : Option (List Definition)) where
+  -- one call in order: it may come next, and it leaves the state of batches, grants and ends
   pub record IsOrdered (ranks : ℕ) (d : Desk) (s : Said) (next : Desk) : Type 0 where
     pub comes : IsNext ranks d.held None s.call
     pub held : next.held ≡ granted_note s.answer
@@ -55,6 +57,7 @@ module _ (F : Forms) (is : IsWork (flows (untargeted F))) (flow : Option (List D
       let free : IsNext ranks None None (put_of (flows F) u) = aims u in
       subst (λ h. IsNext ranks h None (put_of (flows F) u)) (sym none) free
 
+  -- each move of a desk is a call in order
   pub ordered : (ranks : ℕ) (d : Desk) (s : Said) (next : Desk) → AimsAt F ranks → Moves F flow d s next → IsOrdered ranks d s next
   ordered ranks d s next aims (rule_taken g i op a b e free ready new fits said left) = rw (said, left) (record {
     comes = put_next ranks (Rule i op a b) d.held aims free.none_held;
@@ -173,6 +176,7 @@ module _ (F : Forms) (is : IsWork (flows (untargeted F))) (flow : Option (List D
           let o = ordered ranks d s goes.0 aims goes.1 in
           absurd (let e : true ≡ false = sym over ∙ o.live in cc)
 
+  -- a rank that runs a flow to its end and then finishes is orderly
   pub flow_orderly : (ranks : ℕ) (d : Desk) (said : List Said) (last : Desk) → AimsAt F ranks → d.ended ≡ false → d.held ≡ None →
       last.ended ≡ true →
       Goes F flow d said last → IsOrderly ranks None None (said ++ finish ∷ [])

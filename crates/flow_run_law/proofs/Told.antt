@@ -50,11 +50,12 @@ calls_more : (b : Bag) (front : List Entry) (e : Entry) (rank : Rank) →
 calls_more b front e rank =
     calls_split b front (e ∷ []) rank ∙ ap (λ l. calls_from b front rank ++ l) (append-nil (said_by rank (says (bag_after b front) e)))
 
--- the front of a list that ends in one more is a front of what stands before, or all
+-- the front of a list that ends in one more is a front of what comes before, or all
 pub record IsWithin {X : Type 0} (xs said : List X) (y : X) : Type 0 where
   pub more : List X
   pub is : said ≡ xs ++ more
 
+-- a front of a longer list ends within the shorter or just after it
 pub within : {X : Type 0} (xs more said : List X) (y : X) → said ++ y ∷ [] ≡ xs ++ more → IsWithin xs said y ⊎ (xs ≡ said ++ y ∷ [])
 within [] more said y e = inl (record { more = said; is = refl })
 within {X} (x ∷ xs) more [] y e =
@@ -75,6 +76,7 @@ within (x ∷ xs) more (s ∷ said) y e =
 
 -- Sums over ranks.
 
+-- a sum over ranks is at least 1 if one rank's is
 pub over_one : (n : ℕ) (f : Rank → ℕ) (rank : Rank) → rank.0 < n → 1 ≤ f rank → 1 ≤ over_ranks n f
 over_one zero f rank below some = absurd (omega arith)
 over_one (suc n) f rank below some = elim (cases_lt rank.0 n) [
@@ -85,11 +87,13 @@ over_one (suc n) f rank below some = elim (cases_lt rank.0 n) [
       omega (arith, same, some)
 ]
 
+-- a rank whose number is at least 1
 pub record Found (n : ℕ) (f : Rank → ℕ) : Type 0 where
   pub rank : Rank
   pub below : rank.0 < n
   pub some : 1 ≤ f rank
 
+-- a sum over ranks of at least 1 has such a rank
 pub over_found : (n : ℕ) (f : Rank → ℕ) → 1 ≤ over_ranks n f → Found n f
 over_found zero f some = absurd (omega arith)
 over_found (suc n) f some = elim (cases_lt 0 (f (record { 0 = n }))) [
@@ -186,6 +190,7 @@ module _ (F : Forms) (is : IsWork (flows (untargeted F))) (config : Config) (led
         at true h = cc
         at false h = absurd (cc)
 
+    -- the ranks of the run are orderly
     pub orderly : AreOrderly config ledger
     orderly rank below =
         let w = each rank below in
@@ -306,6 +311,7 @@ module _ (F : Forms) (is : IsWork (flows (untargeted F))) (config : Config) (led
         1 ≤ count_by (reads (flows (untargeted F)) is (is_unit u)) (sent None (calls config ledger rank)) → IsGood f u
     sent_right = puts_right ledger [] (sym (append-nil ledger)) got_right
 
+    -- each rank's desk holds right values at the end
     pub ends_right : (rank : Rank) (below : rank.0 < config.ranks) → IsRightDesk f (each rank below).last
     ends_right rank below =
         let w = each rank below in

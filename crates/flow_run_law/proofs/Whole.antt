@@ -34,6 +34,7 @@ head_cases {X} y x xs there = at there.0 there.1 there.2
     at zero below is = inl is
     at (suc k) below is = inr (k, omega arith, is)
 
+-- a list contains its head
 pub Contains-head : {X : Type 0} (x : X) (xs : List X) → Contains (x ∷ xs) x
 Contains-head x xs = (0, omega arith, refl)
 
@@ -79,6 +80,7 @@ refused_keeps : (x : ℕ × ℕ) (d : Desk) (o : Option (List Definition)) (i : 
 refused_keeps x d (Some g) i has = add_keeps x d.stored i has
 refused_keeps x d None i has = has
 
+-- a value that is rejected changes no rule that was put
 pub refused_put : (x : ℕ × ℕ) (d : Desk) (o : Option (List Definition)) → (refused o x d).put ≡ d.put
 refused_put x d (Some g) = refl
 refused_put x d None = refl
@@ -90,6 +92,7 @@ brought_keeps o (Some (Rule j op a b)) d i has = has
 brought_keeps (Some g) (Some (Answer j v)) d i has = add_keeps (j, v) d.stored i has
 brought_keeps None (Some (Answer j v)) d i has = has
 
+-- a unit that comes changes no rule that was put
 pub brought_put : (o : Option (List Definition)) (u : Option FlowUnit) (d : Desk) → (brought o u d).put ≡ d.put
 brought_put o None d = refl
 brought_put o (Some (Rule j op a b)) d = refl
@@ -371,6 +374,7 @@ module _ (F : Forms) (is : IsWork (flows (untargeted F))) (flow : Option (List D
 
   -- A rule that is put is sent, or stored by rank 0.
 
+  -- a rule with this number is among what was sent
   pub record IsSentRule (i : ℕ) (said : List Said) : Type 0 where
     pub op : Op
     pub a : ℕ
@@ -397,6 +401,7 @@ module _ (F : Forms) (is : IsWork (flows (untargeted F))) (flow : Option (List D
     | inr last ↦ elim (head_cases y x [] last) [ inl same ↦ inr same | inr none ↦ absurd (none_there x none) ]
   ]
 
+  -- a rule noted as put at the end was noted before or put by one of these calls
   pub put_ends : (some : ℕ) → AimsAt F some → (i : ℕ) (d : Desk) (said : List Said) (last : Desk) → AreEndedWell said
       → Goes F flow d said last →
       Contains last.put i → Contains d.put i ⊎ PutEnds i said last

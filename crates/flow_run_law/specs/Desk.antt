@@ -14,9 +14,9 @@ use Rattle.work_law.specs.Work.{fetched_unit, put_of}
 use Rattle.work_law.specs.Books.{said_of}
 use Rattle.flow_run_law.specs.Units.{Answer, FlowUnit, Forms, IsRule, Rule, flows}
 
--- the values of rules that rank 0 stored; the rules that it put; the answers of fetched units that were not put yet; those that no server
--- took, the oldest first; whether the oldest was put once more since the last reserve; the unit that was granted and is to be fetched; and
--- whether an end was told
+-- The values of rules that rank 0 stored, and the rules that it put. The answers of fetched units that are still to be put, and those that
+-- no server took, the oldest first. Whether the oldest was put once more since the last reserve. The unit that was granted and is to be
+-- fetched; and whether an end was told.
 pub record Desk : Type 0 where
   pub stored : List (ℕ × ℕ)
   pub put : List ℕ
@@ -26,6 +26,7 @@ pub record Desk : Type 0 where
   pub held : Option UnitNote
   pub ended : Bool
 
+-- the desk before the first call
 abbrev pub at_start : Desk
 at_start = record { stored = []; put = []; owed = []; kept = []; tried = false; held = None; ended = false }
 
@@ -71,6 +72,7 @@ brought flow (Some (Rule i op a b)) d = record d { owed = (i, apply op a b) ∷ 
 brought (Some flow) (Some (Answer i v)) d = record d { stored = add (i, v) d.stored }
 brought None (Some (Answer i v)) d = d
 
+-- the unit of an answer
 abbrev pub unit_of : ℕ × ℕ → FlowUnit
 unit_of x = Answer x.0 x.1
 

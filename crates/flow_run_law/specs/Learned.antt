@@ -19,8 +19,8 @@ pub record HasFetched (F : Forms) (said : List Said) (u : FlowUnit) : Type 0 whe
   pub there : Contains said (said_of (calls_to.Fetch note.id) (answers.Body bytes))
   pub is : fetched_unit (flows F) note bytes ≡ Some u
 
--- it learned the value of the rule of this number: it fetched its answer; the put of its unit was rejected; or it fetched its unit, and
--- the put of its answer was rejected
+-- It learned the value of the rule of this number. It fetched its answer; or the put of its unit was rejected; or it fetched its unit, and
+-- the put of its answer was rejected.
 pub data HasLearned (F : Forms) (said : List Said) (i : ℕ) : Type 0 where
   by_answer : (v : ℕ) → HasFetched F said (Answer i v) → HasLearned F said i
   by_rule : (op : Op) (a b : ℕ) → Contains said (said_of (put_of (flows F) (Rule i op a b)) answers.Rejected) → HasLearned F said i

@@ -27,15 +27,17 @@ abbrev pub rule_of : Option FlowUnit → List ℕ
 rule_of (Some (Rule i op a b)) = i ∷ []
 rule_of _ = []
 
+-- the number of the rule that a call puts, if it does
 abbrev pub rules_of : Forms → Call → List ℕ
 rules_of F (calls_to.Put kind prio target answer body) = rule_of (F.read kind answer body)
 rules_of F _ = []
 
+-- the numbers of the rules that a transcript puts
 unfoldable pub rules_in : Forms → List Said → List ℕ
 rules_in F [] = []
 rules_in F (s ∷ said) = rules_of F s.call ++ rules_in F said
 
--- each number stands there once at most
+-- each number is there once at most
 abbrev pub IsOnce : List ℕ → Type 0
 IsOnce xs = (i : ℕ) → count_by (λ x. x == i) xs ≤ 1
 
@@ -62,6 +64,7 @@ AreTaken F config ledger =
 abbrev pub IsItsValue : List Definition → ℕ × ℕ → Type 0
 IsItsValue flow x = IsGoodAnswer flow x.0 x.1
 
+-- what a desk has are values of the flow
 pub record IsRightDesk (flow : List Definition) (d : Desk) : Type 0 where
   pub stored : All (IsItsValue flow) d.stored
   pub owed : All (IsItsValue flow) d.owed

@@ -47,6 +47,7 @@ pub record IsGoodAnswer (flow : List Definition) (i v : ℕ) : Type 0 where
   pub is : IsRule flow i name op left right
   pub of : HasValue flow name v
 
+-- what a unit carries are values of the flow
 abbrev pub IsGood : List Definition → FlowUnit → Type 0
 IsGood flow (Rule i op a b) = IsGoodRule flow i op a b
 IsGood flow (Answer i v) = IsGoodAnswer flow i v

@@ -1,8 +1,8 @@
 //! How the values of a flow follow from the ledger of a run of flow programs.
 //!
-//! It speaks of definitions alone and has no code. `specs/Units.antt` says what units are (how they are put and read is a
-//! parameter), `specs/Desk.antt` which call a rank makes next, `specs/Run.antt` what a run is, `specs/Learned.antt` what rank 0
-//! learned in its calls, and `specs/Puts.antt` which rules it puts.
+//! It speaks of definitions alone and has no code. `specs/Units.antt` says what units are (how they are put and read
+//! is a parameter), `specs/Desk.antt` which call a rank makes next, and `specs/Run.antt` what a run is.
+//! `specs/Learned.antt` says what rank 0 learned in its calls, and `specs/Puts.antt` which rules it puts.
 #![tactic(auto)]
 
 ghost use Rattle.std.specs.Prelude.{◌≡◌, ◌<◌, ◌∷◌, ◌++◌, ℕ, List, Contains, true};
@@ -22,10 +22,10 @@ ghost use Rattle.work_law.specs.Books.{said_of};
 ghost use Rattle.flow_run_law.specs.Units.{AreForms, Forms, HasTypes, IsGoodRule, IsRule, Rule, flows};
 ghost use Rattle.flow_run_law.specs.Puts.{AreTaken, IsFlowRun, IsOfKnown, IsOnce, IsRightDesk, rules_in};
 
-/// In a legal run in which each rank ran the flow program and then finished: the ranks are orderly; what a rank has stored,
-/// owes or keeps at its end are the values of their rules; rank 0 puts each rule at most once; each input of a rule that it
-/// puts was known to it in the calls before, and the unit that it puts carries the values of the inputs; and if no put of an answer was rejected on another rank, it puts each rule that
-/// has a value.
+/// Of a legal run in which each rank ran the flow program and then finished. The ranks are orderly, and what a rank
+/// has stored, owes or keeps at its end are the values of their rules. Rank 0 puts each rule at most once. Each input
+/// of a rule that it puts was known to it in the calls before, and the unit carries the values of the inputs. If no
+/// put of an answer was rejected on another rank, it puts each rule that has a value.
 pub fn flow_run_laws()
     ensures orderly { (F : Forms) (config : Config) (ledger : List Entry) → 0 < config.ranks → AreForms config.ranks F →
         (flow : List Definition) → IsFlowRun F config ledger flow → AreOrderly config ledger }

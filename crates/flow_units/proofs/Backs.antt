@@ -21,7 +21,7 @@ op_back Min = refl
 op_back Max = refl
 op_back Xor = refl
 
--- what stands in the body of a rule, by its places
+-- what is in the body of a rule, by its places
 rule_parts : (i : ℕ) (op : Op) (a b : ℕ) → rule_in (rule_body i op a b)
     ≡ rule_with (from_be_bytes w32 (to_be_bytes w32 i)) (op_in (op_byte op)) (from_be_bytes w64 (to_be_bytes w64 a))
     (from_be_bytes w64 (to_be_bytes w64 b))
@@ -49,6 +49,7 @@ answer_back i v fits =
     ∙ ap (λ n. Some (Answer n (from_be_bytes w64 (to_be_bytes w64 v)))) (from_be_bytes-to_be_bytes_4 i (ltb-true i (2 ^ 32) p.0))
     ∙ ap (λ n. Some (Answer i n)) (from_be_bytes-to_be_bytes_8 v (ltb-true v (2 ^ 64) p.1))
 
+-- the units of a flow are read back from their bodies, whatever the number of ranks
 pub are_forms : (ranks : ℕ) → 0 < ranks → AreForms ranks (forms ranks)
 are_forms ranks some = record { read_back = back; aimed = aimed_at }
   where
@@ -83,5 +84,6 @@ answer_kind kind rank body i v e =
     at false true is e = eqb-true kind.0 1 (and_parts (kind.0 == 1) (is_none rank) is).0
     at false false is e = absurd (cc)
 
+-- values and rules have two work types
 pub have_types : (ranks : ℕ) → HasTypes (forms ranks)
 have_types ranks = record { rule = λ i op a b. refl; answer = λ i v. refl; read = answer_kind }

@@ -18,6 +18,7 @@ op_byte Min = 3
 op_byte Max = 4
 op_byte Xor = 5
 
+-- the operation of a byte
 abbrev pub op_in : ℕ → Option Op
 op_in byte =
     if byte == 1 then Some Add
@@ -35,11 +36,12 @@ rule_body i op a b = to_be_bytes w32 i ++ op_byte op ∷ [] ++ to_be_bytes w64 a
 abbrev pub answer_body : ℕ → ℕ → List ℕ
 answer_body i v = to_be_bytes w32 i ++ to_be_bytes w64 v
 
--- what stands in a body
+-- what is in a body
 abbrev pub rule_with : ℕ → Option Op → ℕ → ℕ → Option FlowUnit
 rule_with i (Some op) a b = Some (Rule i op a b)
 rule_with i None a b = None
 
+-- the rule of a body
 abbrev pub rule_in : List ℕ → Option FlowUnit
 rule_in body =
     if length body == 21
@@ -47,6 +49,7 @@ rule_in body =
     (from_be_bytes w64 (take 8 (drop 13 body)))
     else None
 
+-- the answer of a body
 abbrev pub answer_in : List ℕ → Option FlowUnit
 answer_in body =
     if length body == 12
@@ -70,8 +73,8 @@ abbrev pub unit_fits : FlowUnit → Bool
 unit_fits (Rule i op a b) = nat_lt i (2 ^ 32) && (nat_lt a (2 ^ 64) && nat_lt b (2 ^ 64))
 unit_fits (Answer i v) = nat_lt i (2 ^ 32) && nat_lt v (2 ^ 64)
 
--- a rule is of type 0 and priority 0, for rank i mod R if another does not take it, with answers to rank 0; an answer is of type 1 and
--- priority 100, for rank 0 alone
+-- A rule is of type 0 and priority 0, for rank i mod R if another does not take it, with answers to rank 0. An answer is of type 1 and
+-- priority 100, for rank 0 alone.
 abbrev pub form_of : ℕ → FlowUnit → Form
 form_of ranks (Rule i op a b) = record {
   kind = record { 0 = 0 };
@@ -88,5 +91,6 @@ form_of ranks (Answer i v) = record {
   body = answer_body i v;
 }
 
+-- the units of a flow, as they are put and read
 abbrev pub forms : ℕ → Forms
 forms ranks = record { form = form_of ranks; fits = unit_fits; read = unit_in }

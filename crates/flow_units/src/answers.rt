@@ -29,7 +29,7 @@ impl AnswerUnit {
         Ok(Payload::from_vec(bytes))
     }
 
-    /// The answer that stands in a body (`answer_in`), if one does.
+    /// The answer that is in a body (`answer_in`), if there is one.
     pub fn read(body: &[u8]) -> Option<AnswerUnit>
         ensures { answer_read result ≡ answer_in body.now }
     {

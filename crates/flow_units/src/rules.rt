@@ -34,7 +34,7 @@ impl RuleUnit {
         Ok(Payload::from_vec(bytes))
     }
 
-    /// The rule that stands in a body (`rule_in`), if one does.
+    /// The rule that is in a body (`rule_in`), if there is one.
     pub fn read(body: &[u8]) -> Option<RuleUnit>
         ensures { rule_read result ≡ rule_in body.now }
     {

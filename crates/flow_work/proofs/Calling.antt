@@ -52,6 +52,7 @@ module _ (F : Forms) (flow : Option (List Definition)) where
   goes_front d (s ∷ said) more last goes =
       let later = goes_front goes.0 said more last goes.2 in (later.0, (goes.0, goes.1, later.1))
 
+  -- the front of a transcript is a transcript so far
   pub so_front : (said more : List Said) → IsSoFar F flow (said ++ more) → IsSoFar F flow said
   so_front said more is =
       let front = goes_front at_start said more is.last is.goes in record { last = front.0; goes = front.1 }

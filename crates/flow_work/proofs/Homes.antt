@@ -81,6 +81,7 @@ take_grown xs ys zero le = refl
 take_grown [] ys (suc k) le = absurd (omega (arith, le))
 take_grown (x ∷ xs) ys (suc k) le = ap (λ (l : List ℕ). x ∷ l) (take_grown xs ys k (omega (arith, le)))
 
+-- a list that grew has the old element at its place
 pub get_grown : (xs new : List ℕ) (k i : ℕ) → Grows xs new → slice_get xs k ≡ Some i → slice_get new k ≡ Some i
 get_grown xs new k i grows at = ap (λ l. slice_get l k) grows.1 ∙ more xs grows.0 k i at
   where
@@ -89,6 +90,7 @@ get_grown xs new k i grows at = ap (λ l. slice_get l k) grows.1 ∙ more xs gro
     more (x ∷ xs) ys zero i at = at
     more (x ∷ xs) ys (suc k) i at = more xs ys k i at
 
+-- a place with an element is within the list
 pub get_within : (xs : List ℕ) (k i : ℕ) → slice_get xs k ≡ Some i → k < length xs
 get_within xs k i at = slice_get_within xs k i at
 
@@ -359,6 +361,7 @@ ready_inside flow s i out at =
 less_by : (x l c n : ℕ) → x ≡ (l + c) - (n + 1) → n < l → x < (l + c) - n
 less_by x l c n e more = omega (arith, e, more)
 
+-- a rule that is taken leaves fewer to take
 pub passed_less : (s t : Store) → t ≡ record s { next = s.next + 1 } → s.next < length s.ready.items → to_take t < to_take s
 passed_less s t is more = less_by (to_take t) (length s.ready.items) (count_by not s.noted.items) s.next (ap to_take is) more
 

@@ -37,15 +37,19 @@ use Rattle.flow_work.proofs.Ways.{next_pends}
 -- Any rank.
 
 module _ (F : Forms) (flow : Option (List Definition)) where
+  -- a rank that goes on has run its program so far
   pub going_so : (said new : List Said) (A : Has) → IsGoing F flow said A → new ≡ said → IsSoFar F flow new
   going_so said new A is same = record { last = is.desk; goes = subst (λ t. Goes F flow at_start t is.desk) (sym same) is.goes }
 
+  -- a rank that stopped has run its program so far
   pub stopped_so : (said : List Said) (A : Has) → IsStopped F flow said A → IsSoFar F flow said
   stopped_so said A is = record { last = is.desk; goes = is.goes }
 
+  -- a rank to which a unit came has run its program so far
   pub come_so : (said : List Said) (A : Has) (unit : Option FlowUnit) → HasCome F flow said A unit → IsSoFar F flow said
   come_so said A unit is = record { last = brought flow unit is.desk; goes = is.goes }
 
+  -- a rank that owes an answer has run its program so far
   pub owes_so : (said : List Said) (A : Has) (x : ℕ × ℕ) → Owes F flow said A x → IsSoFar F flow said
   owes_so said A x is = record { last = record is.desk { owed = x ∷ [] }; goes = is.goes }
 
@@ -286,6 +290,7 @@ module _ (F : Forms) (flow : List Definition) where
       kept_put flow h.store s d.put agrees.0.out.laid.inside agrees.1 next grows,
     )
 
+    -- an answer that comes to the home is stored
     pub answer_stored : (said : List Said) → HasCome F (Some flow) said (AtHome flow h) (Some (unit_of (i, v))) →
         IsGoing F (Some flow) said (AtHome flow (with_store h s))
     answer_stored said is = record {
@@ -295,6 +300,7 @@ module _ (F : Forms) (flow : List Definition) where
       agrees = kept_home is.desk is.agrees;
     }
 
+    -- an answer that is rejected is stored by the home itself
     pub answer_kept : (said new : List Said) (owes : Owes F (Some flow) said (AtHome flow h) (i, v)) → F.fits (unit_of (i, v)) ≡ true →
         new ≡ said ++ said_of (put_of (flows F) (unit_of (i, v))) Rejected ∷ [] → IsGoing F (Some flow) new (AtHome flow (with_store h s))
     answer_kept said new owes fits one = record {
@@ -306,6 +312,7 @@ module _ (F : Forms) (flow : List Definition) where
 
   -- the answers that are kept, with one more
   module _ (h : Home) (k : Vec (ℕ × ℕ)) (x : ℕ × ℕ) (more : k.items ≡ h.kept.items ++ x ∷ []) where
+    -- what the home keeps is kept with one value more
     pub left_home : (stored kept : List (ℕ × ℕ)) → HasStored flow h stored kept →
         HasStored flow (record h { kept = k }) stored (kept ++ x ∷ [])
     left_home stored kept has = record {
@@ -355,6 +362,7 @@ module _ (F : Forms) where
     agrees = (is.agrees.0, inl (is.agrees.0 ∙ none));
   }
 
+  -- a rank without the flow that has tried its answers may reserve
   pub away_may : (said : List Said) (answers : List (ℕ × ℕ)) (is : IsGoing F None said (HasTried answers)) → MayReserve None is.desk
   away_may said answers is = is.agrees.1
 
@@ -394,6 +402,7 @@ module _ (F : Forms) where
       agrees = (is.agrees.0 ∙ sym same, inr refl);
     }
 
+    -- a put that is rejected is a step of the program
     pub again_so : (new : List Said) → new ≡ said ++ said_of again Rejected ∷ [] → IsSoFar F None new
     again_so new one = record { last = record is.desk { tried = true }; goes = goes_again new one }
 
@@ -410,6 +419,7 @@ module _ (F : Forms) where
       agrees = is.agrees.0 ∙ sym same;
     }
 
+    -- a put that ends is a step of the program
     pub again_left_so : (new : List Said) (end : told_end.End) → new ≡ said ++ said_of again (Ended end) ∷ [] → IsSoFar F None new
     again_left_so new end one = record { last = over_now; goes = goes_over new end one }
 

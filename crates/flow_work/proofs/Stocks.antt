@@ -37,6 +37,7 @@ head_there x xs = (0, omega arith, refl)
 
 -- The start.
 
+-- the rank with the flow starts with its lets alone
 pub starts_home : (F : Forms) (flow : List Definition) (h : Home) → IsLaidOut flow h.store → AreLetsAlone flow h.store.values.items →
     h.store.next ≡ 0 → h.kept.items ≡ [] → IsGoing F (Some flow) [] (AtHome flow h)
 starts_home F flow h out alone first none = record {
@@ -59,6 +60,7 @@ starts_home F flow h out alone first none = record {
   );
 }
 
+-- a rank without the flow starts with nothing
 pub starts_away : (F : Forms) (answers : List (ℕ × ℕ)) → answers ≡ [] → IsGoing F None [] (Fresh answers)
 starts_away F answers none = record {
   desk = at_start;
@@ -67,12 +69,14 @@ starts_away F answers none = record {
   agrees = (sym none, refl);
 }
 
+-- at an empty transcript a rank goes on as at its start
 pub went : (F : Forms) (flow : Option (List Definition)) (said : List Said) (A : Has) → said ≡ [] → IsGoing F flow [] A →
     IsGoing F flow said A
 went F flow said A none is = subst (λ (s : List Said). IsGoing F flow s A) (sym none) is
 
 -- Values, one number after the other.
 
+-- no value is stored up to place 0
 pub no_values : (flow : List Definition) (values : List (Option ℕ)) → AreValuesTo flow values [] 0
 no_values flow values = record {
   each = λ x there. absurd (none_there x there);
@@ -116,6 +120,7 @@ values_more flow values own k d are at = record {
 
 -- The end.
 
+-- the rank with the flow follows it, and brings the values that it stored
 pub home_follows : (F : Forms) (flow : List Definition) (said : List Said) (h : Home) (values : List (ℕ × ℕ)) →
     IsStopped F (Some flow) said (Stored flow h) → Brings flow h values → Follows F (Some flow) said values
 home_follows F flow said h values is brings = record {
@@ -133,6 +138,7 @@ home_follows F flow said h values is brings = record {
   brings = brings.all ∙ ap (λ (l : List (ℕ × ℕ)). brings.own ++ l) (sym is.agrees.keeps);
 }
 
+-- a rank without the flow follows it, and brings the answers that it kept
 pub away_follows : (F : Forms) (said : List Said) (kept values : List (ℕ × ℕ)) → IsStopped F None said (Keeping kept) → values ≡ kept →
     Follows F None said values
 away_follows F said kept values is same = record {

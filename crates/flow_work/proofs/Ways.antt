@@ -33,6 +33,7 @@ module _ (F : Forms) (flow : Option (List Definition)) where
   way_so said None way = way
   way_so said (Some call) way = so_front F flow said (said_of call way.0 ∷ []) way.1
 
+  -- a rank that is under way has not finished
   pub way_open : (said : List Said) (begun : Option Call) → IsUnderWay F flow said begun → has_finished said ≡ false
   way_open said begun way = so_open F flow said (way_so said begun way)
 

@@ -31,8 +31,8 @@ abbrev pub IsOwn : Option (List Definition) → List (ℕ × ℕ) → List (ℕ 
 IsOwn None stored own = own ≡ []
 IsOwn (Some flow) stored own = AreStored flow stored own
 
--- the calls that it has made at its end, which was told, and what it brings: the values of rules that it stored, and the answers that no
--- server took and that it keeps
+-- The calls that it has made at its end, which was told, and what it brings. These are the values of rules that it stored, and the answers
+-- that no server took and that it keeps.
 pub record Follows (F : Forms) (flow : Option (List Definition)) (said : List Said) (values : List (ℕ × ℕ)) : Type 0 where
   pub last : Desk
   pub goes : Goes F flow at_start said last

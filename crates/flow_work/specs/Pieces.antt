@@ -7,10 +7,12 @@ use Rattle.flow_work.specs.declared.pieces.Piece.{Piece}
 use Rattle.flow_work.specs.declared.pieces.Piece.TheVariants as pieces
 use Rattle.flow_work.specs.declared.pieces.Putting.{Putting}
 
+-- a unit of the code, as a unit of the flow
 abbrev pub piece : Piece → FlowUnit
 piece (pieces.Rule r) = Rule r.number r.op r.left r.right
 piece (pieces.Answer a) = Answer a.number a.value
 
+-- what was read, as a unit of the flow
 abbrev pub piece_read : Option Piece → Option FlowUnit
 piece_read None = None
 piece_read (Some p) = Some (piece p)

@@ -27,6 +27,7 @@ pub record AreValuesTo (flow : List Definition) (values : List (Option ℕ)) (ow
   pub all : (i v : ℕ) (name : Name) (op : Op) (left right : Name) → IsRule flow i name op left right → i < k →
       value_at values i ≡ Some v → Contains own (i, v)
 
+-- the number with its value, if there is one
 abbrev pub value_with : ℕ → Option ℕ → List (ℕ × ℕ)
 value_with number None = []
 value_with number (Some v) = (number, v) ∷ []

@@ -21,6 +21,7 @@ use Rattle.flow_work.specs.declared.stock.Home.{Home}
 abbrev pub Has : Type 1
 Has = List (ℕ × ℕ) → List ℕ → List (ℕ × ℕ) → Bool → Type 0
 
+-- what is said of a desk's parts, of the desk
 abbrev pub OfDesk : Has → Desk → Type 0
 OfDesk A d = A d.stored d.put d.kept d.tried
 
@@ -81,9 +82,11 @@ pub record HasPut (flow : List Definition) (s : Store) (put : List ℕ) : Type 0
 abbrev pub Stored : List Definition → Home → Has
 Stored flow h stored put kept tried = HasStored flow h stored kept
 
+-- the rank with the flow: its store, and the rules that it put
 abbrev pub AtHome : List Definition → Home → Has
 AtHome flow h stored put kept tried = HasStored flow h stored kept × HasPut flow h.store put
 
+-- all that was ready is put
 abbrev pub AllPut : List Definition → Home → Has
 AllPut flow h stored put kept tried = HasStored flow h stored kept × HasPut flow h.store put × IsDrained h.store
 
@@ -104,6 +107,7 @@ pub record Brings (flow : List Definition) (h : Home) (values : List (ℕ × ℕ
 
 -- Another rank, which keeps these answers.
 
+-- the answers that a rank keeps
 abbrev pub Keeping : List (ℕ × ℕ) → Has
 Keeping answers stored put kept tried = kept ≡ answers
 

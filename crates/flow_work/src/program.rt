@@ -15,10 +15,10 @@ use rank_client::{Adlb, RankProgram};
 use std::alloc::Global;
 use std::collections::VecDeque;
 
-/// The program of a rank. The rank that has the flow puts each rule that becomes ready, with the values of its inputs, and stores the
-/// answers; each rank works the rules that it takes and puts their answers to rank 0. A rule that no server takes is worked at once. An
-/// answer that no server takes is stored by the rank that has the flow; another rank keeps it, and puts the oldest that it keeps once more
-/// before each reserve.
+/// The program of a rank. The rank that has the flow puts each rule that becomes ready, with the values of its
+/// inputs, and stores the answers. Each rank works the rules that it takes and puts their answers to rank 0. A rule
+/// that no server takes is worked at once. An answer that no server takes is stored by the rank that has the flow.
+/// Another rank keeps it, and puts the oldest that it keeps once more before each reserve.
 #[derive(Drop)]
 pub struct FlowProgram {
     alloc: Global,

@@ -1,4 +1,4 @@
--- Solutions that are told where they stand, and those of one puzzle among them.
+-- Solutions that are told where they are, and those of one puzzle among them.
 use Rattle.std.proofs.Common.{◌≡◌, ℕ, ◌+◌, ◌-◌, ◌<◌, ◌≤◌, ◌==◌, Bool, true, false, not, ◌&&◌, Bor, List, [], ◌∷◌, ◌++◌, map, refl}
 use Rattle.std.proofs.Common.{length, drop, take, get_or, sym, ap, ◌∙◌, append_assoc, append-nil, filter, arith}
 use Rattle.std.proofs.Common.{Ok, OnOk, Result, subst, leb, leb-true, ltb, ltb-true}
@@ -58,6 +58,7 @@ cons_if : (hit : Bool) (g : Cells) (xs ys : List Cells) → (if hit then g ∷ (
 cons_if true g xs ys = refl
 cons_if false g xs ys = refl
 
+-- the solutions of a puzzle in two lists are those in each, one after the other
 pub found_append : (n : ℕ) (xs ys : List (ℕ × Cells)) → found_in n (xs ++ ys) ≡ found_in n xs ++ found_in n ys
 unfolding found_in
 found_append n [] ys = refl
@@ -119,7 +120,7 @@ all_found n (s ∷ told) all =
     ap (λ hit. if hit then s.1.now ∷ found_in n (pairs told) else found_in n (pairs told)) (all 0 s (omega arith))
     ∙ ap (λ l. s.1.now ∷ l) (all_found n told (All-tail (λ s. (s.0 == n) ≡ true) s told all))
 
--- those that stand together, after some before the puzzle and before some after it
+-- those that are together, after some before the puzzle and before some after it
 pub found_between : (n : ℕ) (before mid behind : List (ℕ × Bor Cells)) → All (λ s. (s.0 == n) ≡ false) before →
     All (λ s. (s.0 == n) ≡ true) mid → All (λ s. (s.0 == n) ≡ false) behind →
     map (λ s. s.1) (pairs mid) ≡ found_in n (pairs (before ++ (mid ++ behind)))
@@ -179,7 +180,7 @@ rest_from a items same is =
     let long : length (drop a same) ≡ length same - a = length-drop a same in
     take_all (length same - a) (drop a same) (omega arith) ∙ ap (drop a) is
 
--- those that stand together are a part of the rest
+-- those that are together are a part of the rest
 pub stand_in : (n a b : ℕ) (items first rest : List (ℕ × Bor Cells)) → first ≡ items → rest ≡ drop a items →
     a ≤ length first → b ≤ length rest →
     IsPartitionPoint (λ s. ltb s.0 n ≡ true) (λ s. ltb s.0 n ≡ false) first a →

@@ -34,6 +34,7 @@ module _ (n i : ℕ) (outcomes : List Outcome) (o : Outcome) (within : i < lengt
   begins : drop i outcomes ≡ o ∷ drop (i + 1) outcomes
   begins = drop_more outcomes i o within ∙ ap (λ x. x ∷ drop (i + 1) outcomes) (sym is)
 
+  -- whether a puzzle is over, with one outcome more
   pub overs_more : (held next : Bool) (told : List ℕ) → told ≡ o.overs.items → next ≡ (held || list_any (λ k. k == n) told) →
       (next || told_over n (drop (i + 1) outcomes)) ≡ (held || told_over n (drop i outcomes))
   overs_more held next told same noted =

@@ -120,6 +120,7 @@ all_counted f i jobs counts past so_far = subst (λ left. IsCounting f jobs left
 -- The counts of jobs of which the outcomes hold all, in lines after an empty text, with the totals are the summary.
 module _ (budget grain : ℕ) (jobs : List Job) (f : Found) (outcomes : List Outcome) (counts : Counts)
     (whole : AreWhole budget grain jobs outcomes) where
+  -- the line on puzzles is that of the summary
   pub puzzles_line_is : ((n : ℕ) → grids_at f n ≡ found n outcomes) → ((n : ℕ) → is_over_at f n ≡ told_over n outcomes) →
       counts.puzzles ≡ length (puzzles jobs) → counts.overs ≡ overs_from f 1 (puzzles jobs) →
       counts.solutions ≡ solutions_from f 1 (puzzles jobs) →
@@ -133,6 +134,7 @@ module _ (budget grain : ℕ) (jobs : List Job) (f : Found) (outcomes : List Out
       ∙ ap (λ n. puzzles_line count n counts.solutions) (e2 ∙ overs_are budget f outcomes grids overs 1 1 jobs whole.held)
       ∙ ap (λ n. puzzles_line count over n) (e3 ∙ solutions_are budget f outcomes grids overs 1 1 jobs whole.held)
 
+  -- the text is the summary
   pub summary_is : (start first second text lines : List ℕ) → start ≡ [] →
       puzzles_line counts.puzzles counts.overs counts.solutions ≡ lines → counts.batches ≡ count_by is_batch jobs →
       counts.items ≡ all_items jobs → first ≡ start ++ puzzles_line counts.puzzles counts.overs counts.solutions →

@@ -23,7 +23,7 @@ pub latest-append : (value : ℕ) (told more : List ℕ) → latest value (told 
 latest-append value [] more = refl
 latest-append value (next ∷ told) more = latest-append next told more
 
--- a value is noted first, or stands before those that are told
+-- a value is noted first, or comes before those that are told
 noted_first : (hit : Bool) (told value : ℕ) (rest : List ℕ) →
     latest (if hit then told else value) rest ≡ latest value (if hit then told ∷ rest else rest)
 noted_first true told value rest = refl

@@ -60,6 +60,7 @@ pub mixed_summed : summary 1 1 mixed ≡ line (codes "puzzles 1 over 1 solutions
 unfolding digits puzzles box_for any_below count_up fewest_below branches at_cell grown
 mixed_summed = refl
 
+-- the summary of the mixed jobs, in full
 pub mixed_summed_in_full :
     summary 8 1 mixed ≡ line (codes "puzzles 1 over 0 solutions 2") ++ line (codes "batches 3 items 4") ++ totals 3 2 4 4
 unfolding digits puzzles box_for any_below count_up fewest_below branches at_cell grown

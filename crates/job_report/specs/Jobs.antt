@@ -21,6 +21,7 @@ item_count (Batch common items) = length items
 abbrev pub all_boards : ℕ → ℕ → List Job → ℕ
 all_boards budget grain jobs = sum_by (λ g. boards grain (tree_of budget g)) (puzzles jobs)
 
+-- how many solutions the puzzles have
 abbrev pub all_solutions : ℕ → List Job → ℕ
 all_solutions budget jobs = sum_by (λ g. length (solutions (tree_of budget g))) (puzzles jobs)
 

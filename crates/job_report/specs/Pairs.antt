@@ -1,4 +1,4 @@
--- For the crate itself. Solutions that are told where they stand.
+-- For the crate itself. Solutions that are told where they are.
 use Rattle.std.specs.Prelude.{ℕ, List, map}
 use Rattle.std.specs.Borrow.{Bor}
 use Rattle.sudoku_law.specs.Grid.{Cells}

@@ -12,6 +12,7 @@ use Rattle.job_text.specs.declared.jobs.Job.TheVariants.{Puzzle, Batch}
 use Rattle.job_units.specs.Items.{answer_to}
 use Rattle.job_report.specs.Jobs.{all_boards, all_solutions, all_items}
 
+-- a text with a line feed
 abbrev pub line : List ℕ → List ℕ
 line text = text ++ 10 ∷ []
 

@@ -16,6 +16,7 @@ is_over_puzzle budget g = is_over (tree_of budget g)
 abbrev pub solutions_reported : ℕ → Cells → ℕ
 solutions_reported budget g = if is_over_puzzle budget g then 0 else length (solutions (tree_of budget g))
 
+-- the job is a batch
 abbrev pub is_batch : Job → Bool
 is_batch (Puzzle g) = false
 is_batch (Batch common items) = true

@@ -16,6 +16,7 @@ unfoldable pub found_in : ℕ → List (ℕ × Cells) → List Cells
 found_in n [] = []
 found_in n (s ∷ found) = if s.0 == n then s.1 ∷ found_in n found else found_in n found
 
+-- the solutions of a puzzle in all outcomes
 abbrev pub found : ℕ → List Outcome → List Cells
 found n outcomes = flat_map (λ (o : Outcome). found_in n o.solutions.items) outcomes
 
@@ -28,6 +29,7 @@ unfoldable pub answers_in : ℕ → ℕ → List (ℕ × ℕ × ℕ) → List �
 answers_in b n [] = []
 answers_in b n (a ∷ answers) = if (a.0 == b) && (a.1 == n) then a.2 ∷ answers_in b n answers else answers_in b n answers
 
+-- the answers to an item in all outcomes
 abbrev pub answers_of : ℕ → ℕ → List Outcome → List ℕ
 answers_of b n outcomes = flat_map (λ (o : Outcome). answers_in b n o.answers.items) outcomes
 

@@ -17,9 +17,11 @@ use Rattle.sudoku_law.specs.Grid.{Cells}
 abbrev pub over_part : ℕ → List ℕ
 over_part n = line (codes "puzzle " ++ decimal n ++ codes " over")
 
+-- the first line of a batch
 abbrev pub batch_head : ℕ → ℕ → ℕ → List ℕ
 batch_head n bytes items = counted (codes "batch " ++ decimal n ++ codes " bytes " ++ decimal bytes ++ codes " items") items
 
+-- the line of an item
 abbrev pub item_line : Item → ℕ → List ℕ
 item_line item answer = counted (item_text item ++ codes " =") answer
 
@@ -27,6 +29,7 @@ item_line item answer = counted (item_text item ++ codes " =") answer
 abbrev pub grids_at : Found → ℕ → List Cells
 grids_at f n = found_in n f.told
 
+-- the puzzle is over
 abbrev pub is_over_at : Found → ℕ → Bool
 is_over_at f n = contains nat_cmp f.overs n
 
@@ -34,6 +37,7 @@ is_over_at f n = contains nat_cmp f.overs n
 abbrev pub over_count_at : Found → ℕ → ℕ
 over_count_at f n = if is_over_at f n then 1 else 0
 
+-- how many solutions of the puzzle are reported
 abbrev pub solution_count_at : Found → ℕ → ℕ
 solution_count_at f n = if is_over_at f n then 0 else length (grids_at f n)
 
@@ -42,6 +46,7 @@ abbrev pub overs_from : Found → ℕ → List Cells → ℕ
 overs_from f n [] = 0
 overs_from f n (g ∷ rest) = over_count_at f n + overs_from f (n + 1) rest
 
+-- how many solutions are reported from a puzzle on
 abbrev pub solutions_from : Found → ℕ → List Cells → ℕ
 solutions_from f n [] = 0
 solutions_from f n (g ∷ rest) = solution_count_at f n + solutions_from f (n + 1) rest

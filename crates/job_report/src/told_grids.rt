@@ -60,7 +60,7 @@ impl<'a> Told<'a> {
         self.of_puzzle(number).len()
     }
 
-    // The solutions of the puzzle, which stand together.
+    // The solutions of the puzzle, which are together.
     fn of_puzzle(&self, number: u32) -> &[(u32, &'a KeptGrid)]
         ensures { map (λ s. s.1) (pairs result.now) ≡ found_in number self.now }
     {

@@ -19,11 +19,13 @@ none_chosen : (b : Bool) (i : ℕ) → cond b (Some i) None ≡ None → b ≡ f
 none_chosen true i e = absurd cc
 none_chosen false i e = refl
 
+-- if no element passes, the cut is at the end
 pub no_place : (p : ℕ → Bool) (xs : List ℕ) → position p xs ≡ None → position_or_len p xs ≡ length xs
 no_place p xs e =
     let le : length xs ≤ position_or_len p xs = ltb-false (position_or_len p xs) (length xs) (none_chosen _ (position_or_len p xs) e) in
     omega (arith, prefix_len-le-length (λ x. not (p x)) xs)
 
+-- if no element passes, the list is all before the first that does
 pub all_before : (p : ℕ → Bool) (xs : List ℕ) → position p xs ≡ None → xs ≡ before_first p xs
 all_before p xs e = let at : position_or_len p xs ≡ length xs = no_place p xs e in sym (take_all (position_or_len p xs) xs (omega arith))
 
@@ -32,6 +34,7 @@ pub first_line : (text line rest : List ℕ) → position_or_len is_line_feed te
     → rest ≡ after_first is_line_feed text → lines text ≡ strip_carriage_return line ∷ lines rest
 first_line text line rest lt p q = ap (map strip_carriage_return) (slice_split_first is_line_feed text 0 lt) ∙ rw (p, q) refl
 
+-- a text without a line feed is one line
 pub last_line : (text : List ℕ) → position_or_len is_line_feed text ≡ length text → lines text ≡ strip_carriage_return text ∷ []
 last_line text at =
     ap (map strip_carriage_return) (slice_split_none is_line_feed text (All-from_get_or (λ x. is_line_feed x ≡ false) text 0 (λ k lt.

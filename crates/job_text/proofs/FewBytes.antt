@@ -56,6 +56,7 @@ job_first (batch bytes) kinds p all = All-cons HasFewBytes (Batch bytes (items_o
 job_first (item i) kinds p all = all
 job_first (bad reason) kinds p all = all
 
+-- each batch of an input has at most the bytes of its lines
 pub few_bytes : (lines : List (List ℕ)) → All HasFewBytes (jobs_of (map kind_of lines))
 unfolding jobs_of
 few_bytes [] = All-nil HasFewBytes

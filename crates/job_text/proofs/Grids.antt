@@ -65,6 +65,7 @@ job_first (batch bytes) kinds p all = All-cons HasGrid (Batch bytes (items_of ki
 job_first (item i) kinds p all = all
 job_first (bad reason) kinds p all = all
 
+-- each puzzle of an input is a grid
 pub have_grids : (lines : List (List ℕ)) → All HasGrid (jobs_of (map kind_of lines))
 unfolding jobs_of
 have_grids [] = All-nil HasGrid

@@ -64,6 +64,7 @@ all_pass p (x ∷ xs) each = and_from (p x) (list_all p xs) (each 0 (omega arith
 abbrev signed : List ℕ → Kind
 signed text = cond (list_all (is_cell_sign (side_for (length text))) text) (puzzle (map digit_of text)) (bad Character)
 
+-- a text that reads as a grid is a puzzle
 pub grid_read : (text : List ℕ) (g : Cells) → Reads text g → puzzle_kind text ≡ puzzle g
 unfolding puzzle_kind
 grid_read text g r =
@@ -72,12 +73,14 @@ grid_read text g r =
     cond-true (is_size (length text)) (signed text) (bad (Length (length text))) (size_is (length text) r.long)
     ∙ cond-true (list_all (is_cell_sign n) text) (puzzle (map digit_of text)) (bad Character) passes ∙ ap puzzle (sym r.cells)
 
+-- a text of another length is refused for its length
 pub no_length : (text : List ℕ) → (IsSize (length text) → ⊥) → puzzle_kind text ≡ bad (Length (length text))
 unfolding puzzle_kind
 no_length text never =
     cond-false (is_size (length text)) (signed text) (bad (Length (length text)))
     (not_true (is_size (length text)) (λ t. never (is_size_of (length text) t)))
 
+-- a text with a bad character is refused for it
 pub no_character : (text : List ℕ) (k : ℕ) → IsFirstBad text k → puzzle_kind text ≡ bad Character
 unfolding puzzle_kind
 no_character text k is =

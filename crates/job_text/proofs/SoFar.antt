@@ -17,6 +17,7 @@ pub nothing_more : (jobs : List Job) → jobs ≡ jobs ++ jobs_of []
 unfolding jobs_of
 nothing_more jobs = sym (append-nil jobs)
 
+-- a batch ends with the items read so far
 pub batch_ends : (jobs : List Job) (common : List ℕ) (items : List Item)
     → jobs ++ Batch common items ∷ [] ≡ jobs ++ Batch common (items ++ items_of []) ∷ jobs_of []
 unfolding jobs_of items_of
@@ -28,6 +29,7 @@ unfolding jobs_of items_of
 skips_behind None kinds = refl
 skips_behind (Some b) kinds = refl
 
+-- a line that is skipped adds nothing
 pub skips : (r : Reading) → Extends r skipped r
 skips r = record {
   jobs = λ kinds. ap (λ (l : List Job). r.jobs.items ++ l) (skips_behind r.current kinds);
@@ -61,6 +63,7 @@ count_is : (new : Reading) (jobs : List Job) (c : Option OpenBatch) → new.jobs
 count_is new jobs c items current =
     ap (λ (l : List Job). length l + count_current new.current) items ∙ ap (λ (x : Option OpenBatch). length jobs + count_current x) current
 
+-- a puzzle line adds a puzzle
 pub puzzle_added : (old new : Reading) (jobs : List Job) (g : Cells) → jobs ≡ jobs_with old [] → length jobs ≤ count old
     → new.jobs.items ≡ jobs ++ Puzzle g ∷ [] → new.current ≡ None → Extends old (puzzle g) new
 unfolding jobs_of items_of
@@ -108,11 +111,13 @@ one_item old new a b i was after some same more = record {
   );
 }
 
+-- a batch line opens a batch without items
 pub batch_added : (old new : Reading) (jobs : List Job) (b : OpenBatch) (bytes : List ℕ) → jobs ≡ jobs_with old [] → length jobs ≤ count old
     → new.jobs.items ≡ jobs → new.current ≡ Some b → b.items.items ≡ [] → b.common ≡ bytes → Extends old (batch bytes) new
 batch_added old new jobs b bytes before few after some none same =
     subst (λ x. Extends old (batch x) new) same (new_batch old new jobs b before few after some none)
 
+-- an item line adds an item to the open batch
 pub item_added : (old new : Reading) (a b : OpenBatch) (given : Option Item) (i : Item) → old.current ≡ Some a → given ≡ Some i
     → new.jobs.items ≡ old.jobs.items → new.current ≡ Some b → b.common ≡ a.common → b.items.items ≡ a.items.items ++ i ∷ []
     → Extends old (item given) new

@@ -52,6 +52,7 @@ abbrev pub or_later : Option LineWhy → ℕ → Option (ℕ × LineWhy) → Opt
 or_later (Some reason) n later = Some (n, reason)
 or_later None n later = later
 
+-- the first line that is refused, with its reason
 unfoldable pub first_refused : Bool → ℕ → List Kind → Option (ℕ × LineWhy)
 first_refused on n [] = None
 first_refused on n (kind ∷ kinds) = or_later (fault_of on kind) n (first_refused (goes_on on kind) (n + 1) kinds)
@@ -60,8 +61,10 @@ first_refused on n (kind ∷ kinds) = or_later (fault_of on kind) n (first_refus
 abbrev pub kinds : List ℕ → List Kind
 kinds bytes = map kind_of (lines bytes)
 
+-- the jobs of an input
 abbrev pub input_jobs : List ℕ → List Job
 input_jobs bytes = jobs_of (kinds bytes)
 
+-- the first line of an input that is refused
 abbrev pub input_refused : List ℕ → Option (ℕ × LineWhy)
 input_refused bytes = first_refused false 1 (kinds bytes)

@@ -13,8 +13,8 @@ use Rattle.job_text.specs.declared.items.Item.{Item}
 use Rattle.job_text.specs.declared.items.Item.TheVariants.{Count, Sum, Max}
 use Rattle.job_text.specs.Words.{is_blank, first_word, behind_word, byte_number}
 
--- a line is skipped; it is a puzzle of this grid; a batch of these bytes begins; it is an item, or None if it is not of an item's
--- form; or it is refused wherever it stands
+-- A line is skipped; or it is a puzzle of this grid; or a batch of these bytes begins. Or it is an item, or None without an item's form; or
+-- it is refused wherever it is.
 pub data Kind : Type 0 where
   skipped : Kind
   puzzle : Cells → Kind
@@ -63,16 +63,16 @@ item_of line =
 abbrev pub is_item_name : List ℕ → Bool
 is_item_name word = bytes_eq word (codes "count") || bytes_eq word (codes "sum") || bytes_eq word (codes "max")
 
--- a line that begins with a word: with `batch`, a batch of the bytes after the space after it, or of no bytes; with the name
--- of an item, that item
+-- A line that begins with a word. With `batch`, it is a batch of the bytes after the space after it, or of no bytes; with the name of an
+-- item, it is that item.
 unfoldable pub named_kind : List ℕ → Kind
 named_kind line =
     if bytes_eq (first_word line) (codes "batch") then batch (behind_word line)
     else if is_item_name (first_word line) then item (item_of line)
     else bad Word
 
--- a line that is not too long: it is empty or a comment; or it is a puzzle by its first byte, and what follows its first
--- blank is a remark; or it begins with a word
+-- A line that is not too long is empty or a comment; or it is a puzzle by its first byte; or it begins with a word. What follows a puzzle's
+-- first blank is a remark.
 unfoldable pub short_kind : List ℕ → Kind
 short_kind line =
     if (length line == 0) || (slice_index line 0 == 35) then skipped

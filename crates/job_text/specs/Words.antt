@@ -8,13 +8,15 @@ use Rattle.std.specs.Str.Parse.{digits_value}
 abbrev pub is_space : ℕ → Bool
 is_space byte = byte == 32
 
+-- the byte is a space or a tab
 abbrev pub is_blank : ℕ → Bool
 is_blank byte = (byte == 32) || (byte == 9)
 
--- what stands before the first space, and what follows it
+-- what comes before the first space, and what follows it
 abbrev pub first_word : List ℕ → List ℕ
 first_word text = before_first is_space text
 
+-- what follows the first space
 abbrev pub behind_word : List ℕ → List ℕ
 behind_word text = after_first is_space text
 

@@ -23,7 +23,7 @@ pub(crate) enum Line<'a> {
     Batch(&'a [u8]),
     /// An item, or none if it is not of its form.
     Item(Option<Item>),
-    /// It is refused wherever it stands.
+    /// It is refused wherever it is.
     Bad(LineWhy),
 }
 

@@ -6,9 +6,9 @@
 //!         Err(JobsFault::Memory) => ..,
 //!     }
 //!
-//! An input is cut into lines (`specs/Lines.antt`). Each line is of one kind (`specs/Kinds.antt`): it is skipped, it
-//! is a puzzle, it begins a batch, it is an item of the batch before it, or it is refused. `specs/Jobs.antt` has the
-//! jobs of lines, and which line is refused first. It stands on `sudoku_rules` and on the payloads of `adlb_unit`.
+//! An input is cut into lines (`specs/Lines.antt`). Each line is of one kind (`specs/Kinds.antt`): skipped, a
+//! puzzle, the beginning of a batch, an item of the batch before it, or refused. `specs/Jobs.antt` has the jobs of
+//! lines, and which line is refused first. It stands on `sudoku_rules` and on the payloads of `adlb_unit`.
 #![tactic(auto)]
 
 mod commons;

@@ -15,7 +15,7 @@ fn place_of(bytes: &[u8], at: u8) -> Option<usize>
     bytes.iter().position(|byte| *byte == at)
 }
 
-/// What stands before the first of these bytes, and what follows it, if there is one.
+/// What comes before the first of these bytes, and what follows it, if there is one.
 pub(crate) fn cut(bytes: &[u8], at: u8) -> Option<(&[u8], &[u8])>
     ensures { CutsAt (λ byte. byte == at) bytes.now result }
 {
@@ -35,7 +35,7 @@ pub(crate) fn cut_word(text: &[u8]) -> (&[u8], &[u8])
     }
 }
 
-/// What stands before the first space or tab.
+/// What comes before the first space or tab.
 pub(crate) fn before_blank(text: &[u8]) -> &[u8]
     ensures { result.now ≡ before_first is_blank text.now }
 {

@@ -14,7 +14,7 @@ use Rattle.job_units.proofs.Numbers.{AreBytes, bytes_drop, eight_fit, four_fit, 
 abbrev any_answer : Answer → Bool
 any_answer a = true
 
--- a body by its pieces, and what stands at their places
+-- a body by its pieces, and what is at their places
 pub answer_is : (a : Answer) → answer_body a ≡ to_be_bytes w32 a.batch ++ (to_be_bytes w32 a.number ++ to_be_bytes w64 a.value)
 unfolding answer_body
 answer_is a = refl
@@ -61,7 +61,7 @@ answer_whole body a front middle back =
     ∙ ap (λ x. to_be_bytes w32 a.number ++ x) back)
     ∙ sym (answer_is a)
 
--- an answer stands in its body
+-- an answer is in its body
 answer_back : (a : Answer) → IsAnswer a → answer_in (answer_body a) ≡ a
 answer_back a fits = same_answer (answer_in (answer_body a)) a
     (ap (λ x. from_be_bytes w32 x) (answer_front a) ∙ from_be_bytes-to_be_bytes_4 a.batch fits.batch)

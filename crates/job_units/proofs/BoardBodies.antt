@@ -21,7 +21,7 @@ use Rattle.job_units.proofs.Numbers.{AreBytes, bytes_drop, eight_fit, eight_firs
 abbrev has_grid : Board → Bool
 has_grid b = is_sudoku b.grid
 
--- a body by its pieces, and what stands at their places
+-- a body by its pieces, and what is at their places
 pub board_is : (b : Board) → board_body b ≡ to_be_bytes w32 b.puzzle ++ (to_be_bytes w64 b.budget ++ text_of b.grid)
 unfolding board_body
 board_is b = refl
@@ -68,7 +68,7 @@ board_whole body b front middle back =
     ∙ ap (λ x. to_be_bytes w64 b.budget ++ x) back)
     ∙ sym (board_is b)
 
--- a board stands in its body
+-- a board is in its body
 board_back : (b : Board) → IsBoard b → board_in (board_body b) ≡ b
 board_back b fits = same_board (board_in (board_body b)) b
     (ap (λ x. from_be_bytes w32 x) (board_front b) ∙ from_be_bytes-to_be_bytes_4 b.puzzle fits.puzzle)
@@ -127,6 +127,7 @@ unfolding board_of_body
 board_short body short = no_body Board has_grid board_body body (board_in body) (λ b grid e.
     let long : length body ≡ 12 + length b.grid = ap length e ∙ board_long b in omega arith)
 
+-- a body whose text is no grid is no board
 pub board_unread : (body : List ℕ) → ((g : Cells) → IsSudoku g → (None ≡ Some g) ↔ (drop 8 (drop 4 body) ≡ text_of g))
     → None ≡ board_of_body body
 unfolding board_of_body

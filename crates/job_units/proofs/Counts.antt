@@ -13,12 +13,14 @@ one_if_kind kind unit = cond (is_kind kind unit) 1 0
 
 -- of units that are made alike, all are of one work type, and none is of another
 module _ (X : Type 0) (into : X → Made) (kind : ℕ) where
+  -- if each passes, all are counted
   pub all_counted : ((x : X) → is_kind kind (into x) ≡ true) → (xs : List X) → count_by (is_kind kind) (map into xs) ≡ length xs
   all_counted is [] = refl
   all_counted is (x ∷ xs) =
       let one : Bool → ℕ = λ b. cond b 1 0 in
       omega (arith, sum_by-cons (one_if_kind kind) (into x) (map into xs), ap one (is x), all_counted is xs)
 
+  -- if each fails, nothing is counted
   pub none_counted : ((x : X) → is_kind kind (into x) ≡ false) → (xs : List X) → count_by (is_kind kind) (map into xs) ≡ 0
   none_counted is [] = refl
   none_counted is (x ∷ xs) =
@@ -39,6 +41,7 @@ in_parts grain b kind boards found e f =
       f,
     )
 
+-- the work on a board makes one board for each child of its walk
 pub boards_by : (grain : ℕ) (b : Board) → count_by (is_kind 0) (made_by grain b) ≡ length (walk_of grain b).children
 boards_by grain b =
     let e = in_parts grain b 0 (length (walk_of grain b).children) 0
@@ -46,6 +49,7 @@ boards_by grain b =
     (none_counted Cells (solution_at b.puzzle) 0 (λ g. refl) (walk_of grain b).solutions) in
     omega (arith, e)
 
+-- the work on a board makes one solution for each that its walk finds
 pub solutions_by : (grain : ℕ) (b : Board) → count_by (is_kind 1) (made_by grain b) ≡ length (walk_of grain b).solutions
 solutions_by grain b =
     let e = in_parts grain b 1 0 (length (walk_of grain b).solutions)
@@ -58,6 +62,7 @@ pub no_jobs_by : (grain : ℕ) (b : Board) → count_by (is_kind 2) (made_by gra
 no_jobs_by grain b = in_parts grain b 2 0 0 (none_counted (ℕ × Cells) (child_of b.puzzle) 2 (λ c. refl) (walk_of grain b).children)
     (none_counted Cells (solution_at b.puzzle) 2 (λ g. refl) (walk_of grain b).solutions)
 
+-- the work on a board makes no answer
 pub no_answers_by : (grain : ℕ) (b : Board) → count_by (is_kind 3) (made_by grain b) ≡ 0
 no_answers_by grain b = in_parts grain b 3 0 0 (none_counted (ℕ × Cells) (child_of b.puzzle) 3 (λ c. refl) (walk_of grain b).children)
     (none_counted Cells (solution_at b.puzzle) 3 (λ g. refl) (walk_of grain b).solutions)

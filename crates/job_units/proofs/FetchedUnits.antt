@@ -31,6 +31,7 @@ seam common body long is = omega (arith, length-append common body)
 pub own_behind : (common body : List ℕ) (long : ℕ) → long ≡ length body → own_bytes long (common ++ body) ≡ body
 own_behind common body long is = ap (λ n. drop n (common ++ body)) (seam common body long is) ∙ drop-append_seam common body
 
+-- the bytes before a body of the given length are the common part
 pub common_before : (common body : List ℕ) (long : ℕ) → long ≡ length body → common_bytes long (common ++ body) ≡ common
 common_before common body long is = ap (λ n. take n (common ++ body)) (seam common body long is) ∙ take-append_seam common body
 
@@ -46,6 +47,7 @@ put_back unit kind prio target answer body common long fits put is =
     ∙ ap (λ b. unit_of (kind_of unit) (rank_for unit) b) parts.2
     ∙ read_back unit fits
 
+-- a unit that was put is read back from its fetch
 pub fetch_back : (unit : Made) (note : UnitNote) (target : Target) (body common : List ℕ) → IsUnit unit
     → put_of unit ≡ Put note.kind note.prio target note.answer body → note.length ≡ length body → fetched note (common ++ body) ≡ Some unit
 fetch_back unit note target body common fits put long =
@@ -80,5 +82,6 @@ read_fits note bytes =
     (if_mapped Solution made.Solution (solution_of_body own) (solution_fits own))
     (if_mapped Job made.Job (job_of_body own) (job_fits own)) (if_mapped Answer made.Answer (answer_of_body own) (answer_fits own))
 
+-- what is read from a fetch has the form of a unit
 pub fetched_fits : (note : UnitNote) (bytes : List ℕ) (unit : Made) → fetched note bytes ≡ Some unit → IsUnit unit
 fetched_fits note bytes unit e = subst IsUnitIf e (read_fits note bytes)

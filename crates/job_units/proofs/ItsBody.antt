@@ -1,4 +1,4 @@
--- What stands in a body, if this is its body: one set of laws for the four units.
+-- What is in a body, if this is its body: one set of laws for the four units.
 use Rattle.std.proofs.Common.{◌≡◌, ◌↔◌, ◌&&◌, ℕ, Bool, true, false, cond, List, Option, Some, None, refl, ap, sym, ◌∙◌, subst}
 use Rattle.std.specs.Str.{bytes_eq}
 use Rattle.std.proofs.lemmas.Slice.Eq.{bytes_eq-Decides}
@@ -21,7 +21,7 @@ only_none (Some x) never = absurd (never x refl)
 
 -- of units that are tested by `fits` and written by `write`
 module _ (X : Type 0) (fits : X → Bool) (write : X → List ℕ) where
-  -- what is found fits, this is its body, and it stands there
+  -- what is found fits, this is its body, and it is there
   pub whose_body : (body : List ℕ) (there x : X) → if_its_body X fits write body there ≡ Some x
       → (fits x ≡ true) × (body ≡ write x) × (there ≡ x)
   whose_body body there x e =
@@ -34,7 +34,7 @@ module _ (X : Type 0) (fits : X → Bool) (write : X → List ℕ) where
   own_body : (body : List ℕ) (x : X) → fits x ≡ true → body ≡ write x → if_its_body X fits write body x ≡ Some x
   own_body body x fine same = if_both (fits x) (bytes_eq body (write x)) x fine ((bytes_eq-Decides body (write x)).1 same)
 
-  -- what stands there, fits and has this body is found
+  -- what is there, fits and has this body is found
   pub body_found : (body : List ℕ) (there x : X) → x ≡ there → fits x ≡ true → body ≡ write x → Some x ≡ if_its_body X fits write body there
   body_found body there x is fine same =
       let found : X → Option X = λ y. if_its_body X fits write body y in
@@ -45,7 +45,7 @@ module _ (X : Type 0) (fits : X → Bool) (write : X → List ℕ) where
   no_body body there never =
       only_none (if_its_body X fits write body there) (λ x e. let is = whose_body body there x e in never x is.0 is.1)
 
-  -- what stands in its own body is found of this body alone
+  -- what is in its own body is found of this body alone
   pub body_law : (into : List ℕ → X) (body : List ℕ) (x : X) → fits x ≡ true → into (write x) ≡ x
       → (if_its_body X fits write body (into body) ≡ Some x) ↔ (body ≡ write x)
   body_law into body x fine back = (

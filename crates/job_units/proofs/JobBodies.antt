@@ -16,7 +16,7 @@ use Rattle.job_units.proofs.Numbers.{AreBytes, bytes_drop, four_fit, four_first}
 abbrev any_job : Job → Bool
 any_job j = true
 
--- an item stands in its bytes, which are three
+-- an item is in its bytes, which are three
 pub item_back : (i : Item) → item_in (item_bytes i) ≡ i
 item_back (Count lo hi) = refl
 item_back Sum = refl
@@ -27,7 +27,7 @@ item_long (Count lo hi) = refl
 item_long Sum = refl
 item_long Max = refl
 
--- a body by its pieces, and what stands at their places
+-- a body by its pieces, and what is at their places
 pub job_is : (j : Job) → job_body j ≡ to_be_bytes w32 j.batch ++ (to_be_bytes w32 j.number ++ item_bytes j.item)
 unfolding job_body
 job_is j = refl
@@ -74,7 +74,7 @@ job_whole body j front middle back =
     ∙ ap (λ x. to_be_bytes w32 j.number ++ x) back)
     ∙ sym (job_is j)
 
--- a job stands in its body
+-- a job is in its body
 job_back : (j : Job) → IsJob j → job_in (job_body j) ≡ j
 job_back j fits = same_job (job_in (job_body j)) j
     (ap (λ x. from_be_bytes w32 x) (job_front j) ∙ from_be_bytes-to_be_bytes_4 j.batch fits.batch)
@@ -128,6 +128,7 @@ pub job_unlike : (body : List ℕ) → (length body ≡ 11 → ⊥) → None ≡
 unfolding job_of_body
 job_unlike body other = no_body Job any_job job_body body (job_in body) (λ j fine e. other (ap length e ∙ job_long j))
 
+-- a body whose bytes are no item is no job
 pub job_unread : (body : List ℕ) → ((i : Item) → drop 4 (drop 4 body) ≡ item_bytes i → ⊥) → None ≡ job_of_body body
 unfolding job_of_body
 job_unread body none = no_body Job any_job job_body body (job_in body) (λ j fine e. none j.item (ap (λ x. drop 4 (drop 4 x)) e ∙ job_end j))

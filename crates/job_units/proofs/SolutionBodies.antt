@@ -21,7 +21,7 @@ use Rattle.job_units.proofs.Numbers.{AreBytes, four_fit, four_first}
 abbrev has_grid : Solution → Bool
 has_grid s = is_sudoku s.grid
 
--- a body by its pieces, and what stands at their places
+-- a body by its pieces, and what is at their places
 pub solution_is : (s : Solution) → solution_body s ≡ to_be_bytes w32 s.puzzle ++ text_of s.grid
 unfolding solution_body
 solution_is s = refl
@@ -58,7 +58,7 @@ solution_whole body s front back =
     ∙ ap (λ x. to_be_bytes w32 s.puzzle ++ x) back
     ∙ sym (solution_is s)
 
--- a solution stands in its body
+-- a solution is in its body
 solution_back : (s : Solution) → IsSolution s → solution_in (solution_body s) ≡ s
 solution_back s fits = same_solution (solution_in (solution_body s)) s
     (ap (λ x. from_be_bytes w32 x) (solution_front s) ∙ from_be_bytes-to_be_bytes_4 s.puzzle fits.puzzle)
@@ -107,6 +107,7 @@ unfolding solution_of_body
 solution_short body short = no_body Solution has_grid solution_body body (solution_in body) (λ s grid e.
     let long : length body ≡ 4 + length s.grid = ap length e ∙ solution_long s in omega arith)
 
+-- a body whose text is no grid is no solution
 pub solution_unread : (body : List ℕ) → ((g : Cells) → IsSudoku g → (None ≡ Some g) ↔ (drop 4 body ≡ text_of g))
     → None ≡ solution_of_body body
 unfolding solution_of_body

@@ -36,6 +36,7 @@ kind_of (made.Solution s) = 1
 kind_of (made.Job j) = 2
 kind_of (made.Answer a) = 3
 
+-- the unit is of this work type
 abbrev pub is_kind : ℕ → Made → Bool
 is_kind kind unit = kind_of unit == kind
 

@@ -17,8 +17,9 @@ use Rattle.job_units.specs.declared.units.Made.{Made}
 use Rattle.job_units.specs.declared.units.Made.TheVariants as made
 use Rattle.job_units.specs.Bodies.{board_body, solution_body, job_body, answer_body}
 
--- What stands at the places of a body.
+-- What is at the places of a body.
 
+-- a board by the places of a body
 abbrev pub board_in : List ℕ → Board
 board_in body = record {
   puzzle = from_be_bytes w32 (take 4 body);
@@ -26,15 +27,18 @@ board_in body = record {
   grid = map digit_of (drop 8 (drop 4 body));
 }
 
+-- a solution by the places of a body
 abbrev pub solution_in : List ℕ → Solution
 solution_in body = record { puzzle = from_be_bytes w32 (take 4 body); grid = map digit_of (drop 4 body) }
 
+-- the item of its bytes
 abbrev pub item_in : List ℕ → Item
 item_in bytes =
     if slice_index bytes 0 == 1 then Count (slice_index bytes 1) (slice_index bytes 2)
     else if slice_index bytes 0 == 2 then Sum
     else Max
 
+-- a job by the places of a body
 abbrev pub job_in : List ℕ → Job
 job_in body = record {
   batch = from_be_bytes w32 (take 4 body);
@@ -42,6 +46,7 @@ job_in body = record {
   item = item_in (drop 4 (drop 4 body));
 }
 
+-- an answer by the places of a body
 abbrev pub answer_in : List ℕ → Answer
 answer_in body = record {
   batch = from_be_bytes w32 (take 4 body);
@@ -51,7 +56,7 @@ answer_in body = record {
 
 -- The unit of a body.
 
--- what stands in a body, if it fits and this is the very body that is written of it
+-- what is in a body, if it fits and this is the very body that is written of it
 abbrev pub if_its_body : (X : Type 0) → (X → Bool) → (X → List ℕ) → List ℕ → X → Option X
 if_its_body X fits write body x = if fits x && bytes_eq body (write x) then Some x else None
 
@@ -59,12 +64,15 @@ if_its_body X fits write body x = if fits x && bytes_eq body (write x) then Some
 unfoldable pub board_of_body : List ℕ → Option Board
 board_of_body body = if_its_body Board (λ b. is_sudoku b.grid) board_body body (board_in body)
 
+-- the solution of a body
 unfoldable pub solution_of_body : List ℕ → Option Solution
 solution_of_body body = if_its_body Solution (λ s. is_sudoku s.grid) solution_body body (solution_in body)
 
+-- the job of a body
 unfoldable pub job_of_body : List ℕ → Option Job
 job_of_body body = if_its_body Job (λ j. true) job_body body (job_in body)
 
+-- the answer of a body
 unfoldable pub answer_of_body : List ℕ → Option Answer
 answer_of_body body = if_its_body Answer (λ a. true) answer_body body (answer_in body)
 
@@ -88,6 +96,7 @@ unit_of kind answer body =
 abbrev pub own_bytes : ℕ → List ℕ → List ℕ
 own_bytes long bytes = drop (length bytes - long) bytes
 
+-- the common bytes of a fetch, before its own
 abbrev pub common_bytes : ℕ → List ℕ → List ℕ
 common_bytes long bytes = take (length bytes - long) bytes
 

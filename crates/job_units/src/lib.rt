@@ -1,5 +1,5 @@
-//! The units of a program that works puzzles and jobs on bytes: boards, solutions, jobs and answers; their bodies, how
-//! each is put, how a fetched one is read, and what the work on one makes.
+//! The units of a program that works puzzles and jobs on bytes: boards, solutions, jobs and answers. Here are their
+//! bodies, how each is put, how a fetched one is read, and what the work on one makes.
 //!
 //! It stands on the grids of `sudoku_rules`, the items of `job_text` and the kernels of `lane_bytes`. `specs/Bodies.antt`
 //! has the bodies, `specs/Puts.antt` the puts, `specs/Reading.antt` which unit a body or a fetch is of, and

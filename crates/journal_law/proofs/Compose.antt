@@ -11,10 +11,12 @@ use Rattle.journal_law.specs.Machines.{Machine, World, GoesOn, taken, added, Are
 use Rattle.journal_law.specs.Journals.{sent, got, Walks, IsStamped, Compose}
 use Rattle.journal_law.specs.Runs.{Runs, IsStart, HasRun}
 
+-- what holds of each of two lists holds of each of both together
 pub each_append : {X : Type 0} (P : X → Type 0) (xs ys : List X) → Each P xs → Each P ys → Each P (xs ++ ys)
 each_append P [] ys a b = b
 each_append P (x ∷ xs) ys a b = (a.0, each_append P xs ys a.1 b)
 
+-- what follows of each element holds of each
 pub each_weaker : {X : Type 0} (P Q : X → Type 0) → ((x : X) → P x → Q x) → (xs : List X) → Each P xs → Each Q xs
 each_weaker P Q f [] a = tt
 each_weaker P Q f (x ∷ xs) a = (f x a.0, each_weaker P Q f xs a.1)

@@ -21,9 +21,11 @@ module _ {S L E : Type 0} (m : Machine S L E) where
     pub own : IsOwnRun m a journal state
     pub below : Each (λ e. m.stamp e ≤ last) journal
 
+  -- an empty journal is one so far
   pub so_far_start : (a last : ℕ) → IsSoFar a [] (m.start a) last
   so_far_start a last = record { own = record { walks = refl; rises = tt; stamped = tt }; below = tt }
 
+  -- a journal with one step more at a later stamp is one so far
   pub so_far_more : (a : ℕ) (journal : List E) (s : S) (last : ℕ) (e : E) (t : S) → IsSoFar a journal s last → m.Steps a s e t
       → IsStamped m e → last < m.stamp e → IsSoFar a (journal ++ e ∷ []) t (m.stamp e)
   so_far_more a journal s last e t so step stamped later = record {

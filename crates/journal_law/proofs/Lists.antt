@@ -9,6 +9,7 @@ use Rattle.journal_law.specs.Machines.{Machine, GoesOn, added}
 use Rattle.journal_law.specs.Lists.{Lists, link_of, set_link, take_front, send_all, state_of, after, IsShaped, GotOfActors, lists}
 
 module _ {L : Type 0} (n : ℕ) where
+  -- there are `n` rows of `n` lists
   pub record IsSquare (ls : List (List (List L))) : Type 0 where
     pub links : length ls ≡ n
     pub rows : (a : ℕ) → a < n → length (get_or ls a []) ≡ n
@@ -48,11 +49,13 @@ module _ {L : Type 0} (n : ℕ) where
     ];
   }
 
+  -- taking a front letter leaves `n` rows of `n` lists
   pub square_taken : (a : ℕ) (cause : Option (ℕ × L)) (links : List (List (List L))) → IsSquare links
       → Each (λ x. x.0 < n) (option_to_list cause) → IsSquare (take_front a cause links)
   square_taken a None links square among = square
   square_taken a (Some x) links square among = square_set links x.0 a (drop 1 (link_of links x.0 a)) square among.0
 
+  -- sending letters leaves `n` rows of `n` lists
   pub square_sent : (a : ℕ) (xs : List (ℕ × L)) (links : List (List (List L))) → a < n → IsSquare links → IsSquare (send_all a xs links)
   square_sent a [] links h square = square
   square_sent a (x ∷ xs) links h square = square_sent a xs (set_link links a x.0 (link_of links a x.0 ++ x.1 ∷ [])) h
@@ -109,6 +112,7 @@ module _ {S L E : Type 0} (m : Machine S L E) (first : S) (got_among : GotOfActo
   square : (w : Lists S L) → IsShaped m.actors w → IsSquare m.actors w.links
   square w shaped = record { links = shaped.links; rows = shaped.rows }
 
+  -- in the world of lists, an event that may happen can be taken
   pub lists_go_on : GoesOn m (lists m first)
   lists_go_on w a e t inside shaped steps fronts =
       let n : ℕ = m.actors in

@@ -11,6 +11,7 @@ module _ {S L E : Type 0} (m : Machine S L E) where
   sent to [] = []
   sent to (e ∷ es) = of_actor to (m.sends e) ++ sent to es
 
+  -- what a journal got from an actor
   abbrev pub got : ℕ → List E → List L
   got from [] = []
   got from (e ∷ es) = of_actor from (option_to_list (m.cause e)) ++ got from es

@@ -3,15 +3,18 @@ use Rattle.std.specs.Prelude.{◌≡◌, ℕ, ◌<◌, List, [], ◌∷◌, ◌+
 use Rattle.std.specs.List.{AllByRecursion as Each}
 use Rattle.journal_law.specs.Machines.{Machine, World, AreInFront}
 
+-- the states of actors, and the letters of links
 pub record Lists (S L : Type 0) : Type 0 where
   pub states : List S
   -- by sender, and then by receiver
   pub links : List (List (List L))
 
 module _ {L : Type 0} where
+  -- the letters of a link
   abbrev pub link_of : List (List (List L)) → ℕ → ℕ → List L
   link_of links from to = slice_index_or (slice_index_or links from []) to []
 
+  -- the links with one replaced
   abbrev pub set_link : List (List (List L)) → ℕ → ℕ → List L → List (List (List L))
   set_link links from to letters = slice_set links from (slice_set (slice_index_or links from []) to letters)
 
@@ -32,6 +35,7 @@ pub record IsShaped {S L : Type 0} (n : ℕ) (w : Lists S L) : Type 0 where
   pub rows : (a : ℕ) → a < n → length (slice_index_or w.links a []) ≡ n
 
 module _ {S L E : Type 0} (m : Machine S L E) (first : S) where
+  -- the state of an actor
   abbrev pub state_of : Lists S L → ℕ → S
   state_of w a = slice_index_or w.states a first
 

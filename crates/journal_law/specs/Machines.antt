@@ -22,6 +22,7 @@ module _ {S L E : Type 0} (m : Machine S L E) where
   abbrev pub taken : ℕ → E → ℕ → ℕ → List L
   taken a e from to = cond (a == to) (of_actor from (option_to_list (m.cause e))) []
 
+  -- what an event adds to a link
   abbrev pub added : ℕ → E → ℕ → ℕ → List L
   added a e from to = cond (a == from) (of_actor to (m.sends e)) []
 

@@ -17,6 +17,7 @@ module _ {E : Type 0} (stamp : E → ℕ) where
   abbrev pub IsBefore : ℕ × E → ℕ × E → Type 0
   IsBefore x y = (stamp x.1 < stamp y.1) ⊎ ((stamp x.1 ≡ stamp y.1) × (x.0 < y.0))
 
+  -- each event is before all later ones
   abbrev pub IsInOrder : List (ℕ × E) → Type 0
   IsInOrder [] = Unit {0}
   IsInOrder (x ∷ xs) = Each (IsBefore x) xs × IsInOrder xs

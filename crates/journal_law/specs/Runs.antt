@@ -15,8 +15,8 @@ module _ {S L E W : Type 0} (m : Machine S L E) (world : World S L E W) where
     pub state : (a : ℕ) → a < m.actors → world.state w a ≡ m.start a
     pub link : (from to : ℕ) → from < m.actors → to < m.actors → world.link w from to ≡ []
 
-  -- the events are a run from this world, after which each actor is in its final state, and of each link those letters are under way
-  -- that were sent and not got
+  -- The events are a run from this world, after which each actor is in its final state. Of each link those letters are then under way that
+  -- were sent and not got.
   pub record HasRun (w : W) (events : List (ℕ × E)) (journal : ℕ → List E) (final : ℕ → S) : Type 0 where
     pub last : W
     pub runs : Runs w events last

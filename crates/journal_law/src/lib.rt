@@ -7,8 +7,8 @@
 //! stamps and among equal stamps of their actors, are a run of all actors.
 //!
 //! It stands on nothing else of the workspace. `specs/Machines.antt` says what actors and their worlds are,
-//! `specs/Journals.antt` when journals compose, `specs/Orders.antt` what their merge is, `specs/Runs.antt` what a run is,
-//! and `specs/Lists.antt` has a world of lists, in which each event that may happen does.
+//! `specs/Journals.antt` when journals compose, `specs/Orders.antt` what their merge is, and `specs/Runs.antt` what a
+//! run is. `specs/Lists.antt` has a world of lists, in which each event that may happen does.
 #![tactic(auto)]
 
 ghost use Rattle.std.specs.Prelude.{◌≡◌, ◌<◌, ℕ, List, Option};

@@ -30,6 +30,7 @@ run_balanced conserves config ledger last s outcomes some legal run =
     (workers_orderly tours is_work config ledger some (first_at s) (came config ledger s outcomes run)
     (worker config ledger s outcomes run))
 
+-- if a legal run over tours is finished, the tours that its ranks found hold the least one
 pub joined_least : Conserves → (config : Config) (ledger : List Entry) (last : Bag) (s : StartModel) (outcomes : List TourOutcome) →
     0 < config.ranks → IsRun (start config) ledger last → StartsWell s → IsTourRun config ledger s outcomes →
     HoldLeast s.cities.count (costs s) (all_found outcomes)
@@ -40,11 +41,13 @@ joined_least conserves config ledger last s outcomes some legal starts run =
     (least_is_held s starts config.ranks some (all_came its config.ranks)
     (together tours is_work config ledger last balanced (first_at s) its (worker config ledger s outcomes run)))
 
+-- at the end of such a run each unit is spent
 pub joined_spent : Conserves → (config : Config) (ledger : List Entry) (last : Bag) (s : StartModel) (outcomes : List TourOutcome) →
     0 < config.ranks → IsRun (start config) ledger last → IsTourRun config ledger s outcomes → All (λ u. u.place ≡ Spent) last.units
 joined_spent conserves config ledger last s outcomes some legal run =
     (run_balanced conserves config ledger last s outcomes some legal run).spent
 
+-- at the end of such a run each part is closed and freed
 pub joined_freed : Conserves → (config : Config) (ledger : List Entry) (last : Bag) (s : StartModel) (outcomes : List TourOutcome) →
     0 < config.ranks → IsRun (start config) ledger last → IsTourRun config ledger s outcomes →
     All (λ p. (p.closed ≡ true) × (p.freed ≡ true)) last.parts

@@ -76,6 +76,7 @@ same_itself x = both_of (same_unit x.unit x.unit) (bytes_eq x.common x.common) (
 
 -- Pairs.
 
+-- a unit that is a pair, with its cities
 pub record IsPair (n : ℕ) (u : TourUnit) : Type 0 where
   pub a : ℕ
   pub b : ℕ
@@ -270,6 +271,7 @@ module _ (s : StartModel) where
 
 -- An answer is made of a pair.
 
+-- an answer to a pair, over a start read from the common bytes
 pub record IsAnswer (its_bytes : List ℕ) (by u : TourUnit) : Type 0 where
   pub a : ℕ
   pub b : ℕ
@@ -502,5 +504,6 @@ module _ (s : StartModel) (starts : StartsWell s) (ranks : ℕ) (some : 0 < rank
       is = starts.least few;
     }
 
+    -- what all ranks found, with the first tour, holds a least one
     pub least_is_held : HoldLeast s.cities.count (costs s) ((cost (costs s) s.first, s.first) ∷ found all)
     least_is_held = elim (cases_lt s.cities.count 4) [ inl few ↦ held_by_few few | inr many ↦ held_by_many many ]

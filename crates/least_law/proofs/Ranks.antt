@@ -37,6 +37,7 @@ module _ (config : Config) (ledger : List Entry) (s : StartModel) (outcomes : Li
   came_at rank true e = (run.each rank (ltb-true rank.0 config.ranks (sym e))).follows.came
   came_at rank false e = []
 
+  -- what came to a rank of the run
   abbrev pub came : Rank → List (Arrival TourUnit)
   came rank = came_at rank (nat_lt rank.0 config.ranks) refl
 
@@ -54,6 +55,7 @@ module _ (config : Config) (ledger : List Entry) (s : StartModel) (outcomes : Li
   worker_at rank true e is = worker_of rank (run.each rank (ltb-true rank.0 config.ranks (sym e)))
   worker_at rank false e is = absurd (cc)
 
+  -- each rank of the run is a worker of the law of work
   pub worker : (rank : Rank) → rank.0 < config.ranks → IsWorker tours config ledger (first_at s rank) rank (came rank)
   worker rank below = worker_at rank (nat_lt rank.0 config.ranks) refl (lt-ltb rank.0 config.ranks below)
 
@@ -126,6 +128,7 @@ module _ (config : Config) (ledger : List Entry) (s : StartModel) (outcomes : Li
         ∙ ap (λ l. (home ∷ found (all_came came (suc k))) ++ l) (f.found_are ∙ ap (λ l. l ++ found (came rank)) none)
         ∙ ap (λ l. home ∷ l) (sym (came_more (suc k)))
 
+    -- all outcomes together are the first tour and what all ranks found
     pub all_found_is : 0 < config.ranks → all_found outcomes ≡ home ∷ found (all_came came config.ranks)
     all_found_is some = at config.ranks refl some
       where

@@ -16,9 +16,10 @@ ghost use Rattle.least_law.specs.Joined.{IsTourRun, StartsWell};
 
 use balance_law::balance_laws;
 
-/// The joining of ledger and programs, for every configuration. In a legal run in which each rank ran its tour program and then finished,
-/// the outcomes together hold a least tour, and nothing but tours with their costs (`least`); each accepted unit was fetched, so no unit
-/// is left (`spent`); and the common part of the batch was freed (`freed`).
+/// The joining of ledger and programs, for every configuration. Of a legal run in which each rank ran its tour
+/// program and then finished. The outcomes together hold a least tour, and nothing but tours with their costs
+/// (`least`). Each accepted unit was fetched, so no unit is left (`spent`), and the common part of the batch was
+/// freed (`freed`).
 pub fn joining_laws()
     ensures least { (config : Config) (ledger : List Entry) (last : Bag) (s : StartModel) (outcomes : List TourOutcome) →
         0 < config.ranks → IsRun (start config) ledger last → StartsWell s → IsTourRun config ledger s outcomes →

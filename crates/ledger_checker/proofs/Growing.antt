@@ -33,6 +33,7 @@ all_changed_at P Q f new old zero (x ∷ xs) all =
 all_changed_at P Q f new old (suc n) (x ∷ xs) all =
     All-cons Q x (change_at f n xs) (old x (All-head P x xs all)) (all_changed_at P Q f new old n xs (All-tail P x xs all))
 
+-- a change of the first that passes makes each element as asked
 pub all_changed_first : {X : Type 0} (P Q : X → Type 0) (f : X → X) (test : X → Bool) → ((x : X) → P x → Q (f x)) → ((x : X) → P x → Q x)
     → (xs : List X) → All P xs → All Q (change_first f test xs)
 all_changed_first P Q f test new old [] all = All-nil Q
@@ -140,6 +141,7 @@ own_next : (common : Option CommonRef) (r : RankState) → (own_fetched common r
 own_next None r = refl
 own_next (Some common) r = refl
 
+-- a step leaves room in the counters, with one entry more counted
 pub room_kept : (n : ℕ) (b : Bag) (e : Entry) → HasRoom n b → HasRoom (n + 1) (after b e)
 room_kept n b (Putting rank call kind prio target answer body) room =
     plain n rank
@@ -190,6 +192,7 @@ room_kept n b _ room =
     let wide = more n b room in
     record { limit = wide.limit; ranks = wide.ranks; calls = wide.calls; accepted = wide.accepted; fetched = wide.fetched }
 
+-- at the start the counters have room
 pub start_room : (config : Config) → HasRoom 0 (start config)
 start_room config = record {
   limit = config.limit_within.1;

@@ -10,6 +10,7 @@ use Rattle.bag_ledger.proofs.Bridge.{legal_test}
 use Rattle.bag_ledger.proofs.Charge.{unit_put}
 use Rattle.bag_ledger.proofs.Tests.{some_is}
 
+-- a part that may be kept is within the limit
 pub kept_fits : (b : Bag) (server : Server) (batch : BatchId) (call : ℕ) (common : List ℕ) → legal b (Kept server batch) ≡ true
     → option_and_then (λ r. keeping r.status) (rank_at b batch.rank) ≡ Some (call, common) → length common ≤ b.limit
 kept_fits b server batch call common is brings =

@@ -33,6 +33,7 @@ stops_there b place (e ∷ es) = by_step (λ next. stops_there next (place + 1) 
     by_step later None = refl
     by_step later (Some next) = later next
 
+-- the place of the stop that is found is that of the first illegal entry
 pub place_is : (found : Option Stop) (b last : Bag) (ledger : List Entry) → option_map (λ (s : Stop). (s.place, s.entry, last)) found
     ≡ first_stop b 0 ledger → option_map (λ (s : Stop). s.place) found ≡ first_illegal b 0 ledger
 place_is found b last ledger is = parts found ∙ ap (option_map (λ (s : ℕ × Entry × Bag). s.0)) is ∙ stops_there b 0 ledger
@@ -46,6 +47,7 @@ place_is found b last ledger is = parts found ∙ ap (option_map (λ (s : ℕ ×
 pub room_behind : (b next : Bag) (e : Entry) (n : ℕ) → step b e ≡ Some next → HasRoom n b → HasRoom (n + 1) next
 room_behind b next e n is room = rw (is_row b next e is).2 (room_kept n b e room)
 
+-- no place is found exactly if the ledger is legal
 pub legal_found : (config : Config) (b : Bag) (ledger : List Entry) (found : Result (Option ℕ) NoMemory) → b ≡ start config
     → IfOk found (λ place. place ≡ first_illegal b 0 ledger) → IfOk found (λ place. (place ≡ None) ↔ IsLegal config ledger)
 legal_found config b ledger (Err e) start_is is = tt
@@ -53,6 +55,7 @@ legal_found config b ledger (Ok place) start_is is =
     let found : place ≡ first_illegal (start config) 0 ledger = rw (← start_is) is in
     (λ none. run_from (start config) 0 ledger (sym found ∙ none), λ run. found ∙ none_found (start config) run.0 0 ledger run.1)
 
+-- a place is found exactly if the first illegal entry is there
 pub least_found : (config : Config) (b : Bag) (ledger : List Entry) (found : Result (Option ℕ) NoMemory) → b ≡ start config
     → IfOk found (λ place. place ≡ first_illegal b 0 ledger) → (k : ℕ)
     → IfOk found (λ place. (place ≡ Some k) ↔ IsFirstIllegal (start config) ledger k)

@@ -22,6 +22,7 @@ Suits (Illegal place) complaint = (c : Complaint) × (complaint ≡ Some c) × (
 abbrev pub numbered : List ℕ → ℕ → List ℕ
 numbered word n = word ++ codes " " ++ decimal n ++ 10 ∷ []
 
+-- the line of a verdict
 abbrev pub line_of : Verdict → List ℕ
 line_of (Legal entries) = numbered (codes "legal") entries
 line_of (Illegal place) = numbered (codes "illegal") place

@@ -27,7 +27,7 @@ use std::alloc::Global;
 /// sink took exactly the line of the verdict, and flushed. `Entry`: no configuration and ledger have this text
 /// (`no_text`), and this is the first line that is not what is due (`IsFirstBad`). `TooLarge`: the input has more than
 /// 2^26 bytes. Both only if no read failed. `Read` and `Write`: the count of faults of the source or of the sink rose
-/// (or stands at its last value). `Memory`: an allocation failed; contracts never say when. Nothing is written but at
+/// (or is at its last value). `Memory`: an allocation failed; contracts never say when. Nothing is written but at
 /// `Write` and `Memory`, where a part of the line's front was taken.
 ///
 /// In `complaint` stands what is wrong with the ledger then, if anything is (`suits`): the entry, and the rule that it breaks.

@@ -19,9 +19,10 @@ use std::alloc::Global;
 /// The most bytes of an input.
 const INPUT_LIMIT: usize = 0x400_0000;
 
-/// The configuration and the ledger whose text the input is (`IsTextOn`). `TooLarge` comes if it has more than 2^26 bytes, of which
-/// one more is then taken, and `Entry` if no configuration and ledger have this text, both only if no read failed; `Read` only if the
-/// source's count of faults rose (or stands at its last value). Any of these yields to `Memory`.
+/// The configuration and the ledger whose text the input is (`IsTextOn`). `TooLarge` comes if it has more than 2^26
+/// bytes, of which one more is then taken, and `Entry` if no configuration and ledger have this text. Both come only
+/// if no read failed, and `Read` only if the source's count of faults rose (or has its last value). Any of these
+/// yields to `Memory`.
 pub fn read_text<S: Source>(alloc: Global, input: &mut S) -> Result<(Config, Ledger), CheckFault>
     ensures told { IfOk result (λ x. IsTextOn (S.left input.old) x.0 x.1) }
     ensures end { OnOk result (IsAtEnd (S.left input.new)) }

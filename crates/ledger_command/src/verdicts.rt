@@ -19,7 +19,7 @@ use std::alloc::Global;
 pub enum Verdict {
     /// It is a legal run of this many entries.
     Legal { entries: u64 },
-    /// The first entry that is no step stands at this place, from 0.
+    /// The first entry that is no step is at this place, from 0.
     Illegal { place: u64 },
 }
 

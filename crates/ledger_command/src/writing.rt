@@ -8,7 +8,7 @@ use crate::verdicts::Verdict;
 use adlb_io::{Sink, write_all};
 use std::alloc::Global;
 
-/// Writes the verdict's line and flushes. `Write` comes only if the sink's count of faults rose (or stands at its last
+/// Writes the verdict's line and flushes. `Write` comes only if the sink's count of faults rose (or is at its last
 /// value). At `Write` and `Memory`, its only other error, a part of the line's front was taken, which may be nothing.
 pub fn write_verdict<K: Sink>(
     alloc: Global,

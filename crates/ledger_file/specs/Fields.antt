@@ -11,8 +11,8 @@ use Rattle.adlb_unit.specs.declared.names.Target.TheVariants as target
 use Rattle.adlb_unit.specs.declared.notes.End.{End}
 use Rattle.adlb_unit.specs.declared.notes.End.TheVariants as ends
 
--- a field by its kind: numbers of 32 and 64 bits, a priority, the id of a unit or batch by its rank and number, a target, a rank
--- or none, a priority or none, the wanted types, bytes, and an end that is told
+-- A field by its kind: numbers of 32 and 64 bits, a priority, the id of a unit or batch by its rank and number, a target. Or a rank or a
+-- priority that may be missing, the wanted types, bytes, and an end that is told.
 pub data Field : Type 0 where
   u32 : ℕ → Field
   u64 : ℕ → Field
@@ -53,6 +53,7 @@ word (told ends.Exhausted) = codes "exhausted"
 abbrev pub in_u32 : ℕ → Bool
 in_u32 n = nat_lt n (2 ^ 32)
 
+-- the number fits 32 bits with a sign
 abbrev pub in_i32 : ℤ → Bool
 in_i32 (pos n) = nat_lt n (2 ^ 31)
 in_i32 (negsuc n) = nat_lt n (2 ^ 31)
@@ -75,5 +76,6 @@ within (wanted (Some kinds)) = nat_lt 0 (length kinds) && nat_le (length kinds) 
 within (body bs) = list_all (λ b. nat_lt b (2 ^ 8)) bs
 within (told e) = true
 
+-- the field is within its range
 abbrev pub IsWithin : Field → Type 0
 IsWithin f = IsTrue (within f)

@@ -42,6 +42,7 @@ row (of.Finished rank call) = (codes "finished", u32 rank.0 ∷ u64 call ∷ [])
 abbrev pub words : List ℕ × List Field → List (List ℕ)
 words x = x.0 ∷ map word x.1
 
+-- a line of a name and its fields
 abbrev pub line : List ℕ × List Field → List ℕ
 line x = join_with_byte 32 (words x) ++ 10 ∷ []
 
@@ -49,6 +50,7 @@ line x = join_with_byte 32 (words x) ++ 10 ∷ []
 abbrev pub first_row : Config → List ℕ × List Field
 first_row config = (codes "ledger", u32 config.ranks ∷ u32 config.servers ∷ u64 config.limit ∷ [])
 
+-- the last line, with the number of entries
 abbrev pub last_row : ℕ → List ℕ × List Field
 last_row n = (codes "end", u64 n ∷ [])
 
@@ -56,6 +58,7 @@ last_row n = (codes "end", u64 n ∷ [])
 abbrev pub lines : List Entry → List ℕ
 lines entries = flat_map (λ e. line (row e)) entries
 
+-- the first line, and those of the entries
 abbrev pub open_text : Config → List Entry → List ℕ
 open_text config entries = line (first_row config) ++ lines entries
 
@@ -67,6 +70,7 @@ text config entries = open_text config entries ++ line (last_row (length entries
 abbrev pub IsEntry : Entry → Type 0
 IsEntry e = AllByRecursion IsWithin (row e).1
 
+-- each entry can be written
 abbrev pub AreEntries : List Entry → Type 0
 AreEntries entries = AllByRecursion IsEntry entries
 
@@ -79,11 +83,12 @@ pub record IsText (config : Config) (entries : List Entry) (bytes : List ℕ) : 
 abbrev pub BeginsWithEntry : List ℕ → Type 0
 BeginsWithEntry bytes = (e : Entry) × (after : List ℕ) × IsEntry e × (bytes ≡ line (row e) ++ after)
 
+-- the bytes begin with the last line
 abbrev pub BeginsWithEnd : ℕ → List ℕ → Type 0
 BeginsWithEnd n bytes = (after : List ℕ) × (bytes ≡ line (last_row n) ++ after)
 
--- the first line, counted from 1, that is not what is due at its place: it is no first line; or the lines before are the first and
--- those of entries, and it is neither the line of an entry nor the last line after these; or the text has ended, and something follows
+-- The first line, counted from 1, that is not what is due at its place. It is no first line; or the lines before are the first and those of
+-- entries, and it is neither the line of an entry nor the last line. Or the text has ended, and something follows.
 pub data IsFirstBad (bytes : List ℕ) (at : ℕ) : Type 0 where
   no_first : ((config : Config) (after : List ℕ) → bytes ≡ line (first_row config) ++ after → ⊥) → at ≡ 1 → IsFirstBad bytes at
   no_next : (config : Config) (entries : List Entry) (rest : List ℕ) → AreEntries entries → bytes ≡ open_text config entries ++ rest →

@@ -1,10 +1,10 @@
-//! Lists of bytes that are cut at a byte: a line at its blanks, a list of types at its commas, an id at its dot, a
-//! text at its line feeds.
+//! Lists of bytes that are cut at a byte: a line at blanks, a list of types at commas, an id at its dot, a text at
+//! line feeds.
 
 ghost use Rattle.std.specs.Prelude.{◌≡◌, ◌∷◌, [], MatchOption, true};
 ghost use Rattle.ledger_file.specs.inside.Reading.{IsCut, free, parts_left, parts_of};
 
-/// What stands before the first of these bytes and after it, if there is one (`IsCut`).
+/// What comes before the first of these bytes and after it, if there is one (`IsCut`).
 pub fn cut(bytes: &[u8], at: u8) -> Option<(&[u8], &[u8])>
     ensures { MatchOption result (free at bytes.now ≡ true) (λ sides. IsCut at bytes.now sides.0.now sides.1.now) }
 {

@@ -105,7 +105,7 @@ impl Name {
         }
     }
 
-    /// The name of the entry, whose word stands first in its line (`row`).
+    /// The name of the entry, whose word comes first in its line (`row`).
     pub fn of_entry(entry: &Entry) -> Name
         ensures { name_word result ≡ (row entry.now).0 }
     {

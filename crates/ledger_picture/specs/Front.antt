@@ -6,6 +6,7 @@ use Rattle.ledger_picture.specs.declared.numbers.Numbers.{Numbers}
 abbrev pub attribute : List ℕ → ℕ → List ℕ
 attribute name n = name ++ decimal n ++ codes "'"
 
+-- the attribute of the first entry that is no step, if there is one
 abbrev pub illegal_of : Option ℕ → List ℕ
 illegal_of None = []
 illegal_of (Some place) = attribute (codes " data-illegal='") place
@@ -21,6 +22,7 @@ counts_of numbers =
 abbrev pub front_of : Numbers → List ℕ
 front_of numbers = counts_of numbers ++ illegal_of numbers.illegal
 
+-- a label of a word and a number
 abbrev pub label : List ℕ → ℕ → List ℕ
 label word n = codes ">" ++ word ++ codes " " ++ decimal n
 

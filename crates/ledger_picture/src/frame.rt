@@ -1,4 +1,4 @@
-//! What stands around and below the lanes: the size, the colours, the axis, and the limit of each server.
+//! What is around and below the lanes: the size, the colours, the axis, and the limit of each server.
 
 use crate::columns::Columns;
 use crate::numbers::Numbers;

@@ -9,8 +9,8 @@ use adlb_unit::Config;
 use ledger_rules::Complaint;
 use packed_ledger::Ledger;
 
-/// What a picture says of its ledger: how many ranks, servers and entries there are, and the place, from 0, of the first entry that is no
-/// step, if there is one. The picture has a lane for each rank and each server.
+/// What a picture says of its ledger: how many ranks, servers and entries it has, and the place, from 0, of the first
+/// entry that is no step, if any. The picture has a lane for each rank and each server.
 #[derive(Clone, Copy)]
 pub struct Numbers {
     pub ranks: u32,

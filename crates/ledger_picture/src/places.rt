@@ -1,4 +1,4 @@
-//! Where things stand in a picture, in its units of length.
+//! Where things are in a picture, in its units of length.
 
 /// The left end of the lanes.
 pub(crate) const LEFT: u64 = 80;

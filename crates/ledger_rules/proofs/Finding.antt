@@ -45,9 +45,11 @@ none_broken b (r ∷ rs) all = by_test (λ rest. none_broken b rs rest) (meets b
 pub step_from : (b : Bag) (e : Entry) → broken b (rules_of e) ≡ None → step b e ≡ Some (after b e)
 step_from b e none = rw (obeyed b e ∙ all_met b (rules_of e) none) refl
 
+-- an entry that is no step breaks one of its rules
 pub broken_from : (b : Bag) (e : Entry) → step b e ≡ None → broken b (rules_of e) ≡ None → ⊥
 broken_from b e stops none = let goes = step_from b e none in cc
 
+-- an entry that is a step breaks no rule
 pub none_from : (b next : Bag) (e : Entry) → step b e ≡ Some next → broken b (rules_of e) ≡ None
 none_from b next e goes = by_test (in_turn b e && legal b e) refl goes
   where

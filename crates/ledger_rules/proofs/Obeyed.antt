@@ -20,6 +20,7 @@ use Rattle.ledger_rules.specs.Table.{meets, rules_of}
 use Rattle.ledger_rules.proofs.Shapes.{two, three, four, begun_and, begun_as, begun_with, brought, closed_as, counted_as, fetched_as}
 use Rattle.ledger_rules.proofs.Shapes.{freed_as, granted_as, looked_as, pending_all, pending_and, promised_as, refused_as}
 
+-- an entry is in turn and legal exactly if the bag meets all its rules
 pub obeyed : (b : Bag) (e : Entry) → (in_turn b e && legal b e) ≡ list_all (meets b) (rules_of e)
 obeyed b (Putting rank call kind prio target answer body) =
     begun_as (not (has_due b)) (rank_at b rank) (λ r. is_running r.status) (λ r. r.next == call)

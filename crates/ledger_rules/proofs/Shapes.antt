@@ -4,12 +4,14 @@ use Rattle.bag_ledger.specs.Step.{has}
 
 -- conditions alone, after one that each entry is under
 
+-- two conditions as a list
 pub two : (d a b : Bool) → (d && (a && b)) ≡ (d && (a && (b && true)))
 two false a b = refl
 two true false b = refl
 two true true false = refl
 two true true true = refl
 
+-- three conditions as a list
 pub three : (d a b c : Bool) → (d && (a && b && c)) ≡ (d && (a && (b && (c && true))))
 three false a b c = refl
 three true false b c = refl
@@ -17,6 +19,7 @@ three true true false c = refl
 three true true true false = refl
 three true true true true = refl
 
+-- four conditions as a list
 pub four : (d a b c e : Bool) → (d && (a && b && c && e)) ≡ (d && (a && (b && (c && (e && true)))))
 four false a b c e = refl
 four true false b c e = refl
@@ -58,6 +61,7 @@ begun_as false o p q = refl
 begun_as true None p q = refl
 begun_as true (Some r) p q = three true (p r) (q r) true
 
+-- the conditions on what is looked up as a list, of which the first is that it is there
 pub begun_with : {X : Type 0} (d : Bool) (o : Option X) (p q t : X → Bool)
     → (d && has o (λ r. p r && q r && t r)) ≡ (d && (has o (λ r. true) && (has o p && (has o q && (has o t && true)))))
 begun_with false o p q t = refl

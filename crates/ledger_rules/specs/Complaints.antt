@@ -7,7 +7,7 @@ use Rattle.bag_ledger.specs.Runs.{IsRun}
 use Rattle.ledger_rules.specs.declared.complaints.Complaint.{Complaint}
 use Rattle.ledger_rules.specs.Table.{broken, rules_of}
 
--- the entries before the place are steps from the start, this entry stands there, and of its rules this is the first that the bag
+-- the entries before the place are steps from the start, this entry is there, and of its rules this is the first that the bag
 -- before it does not meet
 pub record IsComplaint (config : Config) (ledger : List Entry) (c : Complaint) : Type 0 where
   pub before : Bag

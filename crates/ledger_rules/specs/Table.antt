@@ -72,6 +72,7 @@ rules_of (of.Finished rank call) = beginning rank call (rule.Outside rank ∷ []
 abbrev pub rank_passes : Bag → Rank → (RankState → Bool) → Bool
 rank_passes b rank test = has (rank_at b rank) test
 
+-- the unit is there and passes the test
 abbrev pub unit_passes : Bag → UnitId → (Placed → Bool) → Bool
 unit_passes b id test = has (unit_of b id) test
 

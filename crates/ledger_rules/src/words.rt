@@ -4,7 +4,7 @@ use crate::rules::Rule;
 use adlb_unit::{BatchId, End, NoMemory, Rank, Server, UnitId, or_no_memory};
 use itoa::Buffer;
 
-/// What stands in the words of a rule in place of a `#`.
+/// What is in the words of a rule in place of a `#`.
 #[derive(Clone, Copy)]
 enum Subject {
     None,

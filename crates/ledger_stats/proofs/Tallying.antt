@@ -17,7 +17,7 @@ none_told Rejected = refl
 none_told Granted = refl
 none_told Pushed = refl
 
--- an entry stands before those that are left
+-- an entry comes before those that are left
 entry_first : (f : Entry → Bool) (e : Entry) (rest : List Entry) → count_by f (e ∷ rest) ≡ count_by f (e ∷ []) + count_by f rest
 entry_first f e rest = sum_by-append (λ x. cond (f x) 1 0) (e ∷ []) rest
 

@@ -5,8 +5,8 @@ use Rattle.bag_ledger.specs.declared.entries.Entry.TheVariants as entries_of
 use Rattle.ledger_stats.specs.declared.stats.Statistic.{Statistic}
 use Rattle.ledger_stats.specs.declared.stats.Statistic.TheVariants.{Accepted, Refused, Rejected, Granted, Pushed}
 
--- the entry is counted: by it a server takes a unit; it has no room for what a rank brings; each server has refused that; a server
--- gives a rank a unit; a unit arrives that was pushed
+-- The entry is counted: by it a server takes a unit, or has no room for what a rank brings; or each server has refused that. Or a server
+-- gives a rank a unit, or a unit arrives that was pushed.
 abbrev pub counts : Statistic → Entry → Bool
 counts Accepted (entries_of.Accepted server unit) = true
 counts Refused (entries_of.Refused server unit used) = true
@@ -15,6 +15,7 @@ counts Granted (entries_of.Granted server rank call unit) = true
 counts Pushed (entries_of.Arrived server unit) = true
 counts statistic entry = false
 
+-- a text with a line feed
 abbrev pub line : List ℕ → List ℕ
 line text = text ++ 10 ∷ []
 

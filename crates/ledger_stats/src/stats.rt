@@ -11,8 +11,8 @@ use bag_ledger::Entry;
 use packed_ledger::Ledger;
 use std::alloc::Global;
 
-/// Appends the seven lines of the ledger's counts (`stats_text`) to the text: how many times a unit was accepted,
-/// refused by a server, rejected, granted, and pushed to another server, and how many units were left, which is
+/// Appends the seven lines of the ledger's counts (`stats_text`) to the text. They say how often a unit was
+/// accepted, refused by a server, rejected, granted, and pushed to another server. How many units were left is
 /// `left`. Its only error is `NoMemory`.
 pub fn append_stats(
     alloc: Global,

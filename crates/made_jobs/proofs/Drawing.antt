@@ -60,6 +60,7 @@ lines_with number text signs eighth =
     associated : (t s n b i : List ℕ) → t ++ s ++ n ++ b ++ s ++ i ≡ t ++ (s ++ n ++ (b ++ s ++ i))
     associated t s n b i = simp append_assoc refl
 
+-- a puzzle whose number is no multiple of 8 is one line
 pub lines_without : (number : ℕ) (text signs : List ℕ) → (number % 8 ≡ 0 → ⊥) → text ++ signs ++ codes "\n" ≡ text ++ lines_of number signs
 unfolding lines_of
 lines_without number text signs other =

@@ -14,10 +14,12 @@ unfolding blanks
 blanks_long zero at = refl
 blanks_long (suc times) at = length-set (blanks times at).0 ((draw (blanks times at).1).0 % 81) 46 ∙ blanks_long times at
 
+-- a relabelled grid has 81 signs
 pub relabelled_long : (signs : List ℕ) → length (relabelled signs) ≡ 81
 unfolding relabelled
 relabelled_long signs = length-map full_grid _ ∙ grid_long
 
+-- a made puzzle has 81 signs
 pub puzzle_long : (generator : Lcg) → length (puzzle generator).0 ≡ 81
 unfolding puzzle
 puzzle_long generator =
@@ -57,6 +59,7 @@ one_more count line lines before long eighth other is =
       | inr e ↦ omega (arith, long, is, other e, e, old, now, low, below)
     ]
 
+-- `count` made puzzles have 82 bytes each, and 108 bytes for each eighth
 pub made_long : (count : ℕ) (generator : Lcg) → length (made count generator).0 ≡ 82 * count + 108 * (count / 8)
 unfolding made
 made_long zero generator = refl
@@ -68,5 +71,6 @@ made_long (suc count) generator =
     ∙ one_more count (length line) (length lines) (length before) (puzzle_long (made count generator).1)
     (lines_with_long (suc count) line) (lines_without_long (suc count) line) (made_long count generator)
 
+-- a made text of at most 100,000 puzzles has at most 2^24 bytes
 pub text_short : (count seed : ℕ) → count ≤ 100000 → length (made_text count seed) ≤ 2 ^ 24
 text_short count seed few = omega (arith, few, made_long count (seeded seed), div-add-mod' count 8)

@@ -10,6 +10,7 @@ use Rattle.std.proofs.lemmas.List.Sums.{AllPass-from_list_all}
 use Rattle.made_jobs.specs.Made.{full_grid, relabelled, sign_for}
 use Rattle.made_jobs.specs.Signs.{IsDigit}
 
+-- the full grid has 81 cells
 pub grid_long : length full_grid ≡ 81
 unfolding full_grid
 grid_long = refl
@@ -30,6 +31,7 @@ grid_digits : All IsDigit full_grid
 unfolding full_grid
 grid_digits = are_digits full_grid refl refl
 
+-- each cell of the full grid is a digit from 1 to 9
 pub grid_digit : (place : ℕ) → place < 81 → IsDigit (get_or full_grid place 0)
 grid_digit place within = All-get_or IsDigit full_grid place 0 (omega (arith, within, grid_long)) grid_digits
 

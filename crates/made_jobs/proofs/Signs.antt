@@ -64,6 +64,7 @@ blanks_keep zero at all = all
 blanks_keep (suc times) at all =
     All-set IsSign (blanks times at).0 ((draw (blanks times at).1).0 % 81) 46 (inl refl) (blanks_keep times at all)
 
+-- a made puzzle is of dots and digits
 pub puzzle_signs : (generator : Lcg) → IsPuzzle (puzzle generator).0
 unfolding puzzle
 puzzle_signs generator = record {
@@ -115,6 +116,7 @@ digits_filled (sign ∷ signs) all =
     let later = digits_filled signs (All-tail IsDigit sign signs all) in
     omega arith
 
+-- a made puzzle has at least 41 digits
 pub puzzle_filled : (generator : Lcg) → 41 ≤ filled (puzzle generator).0
 unfolding puzzle
 puzzle_filled generator =

@@ -11,6 +11,7 @@ pub record SinkSeen : Type 0 where
   pub writes : ℕ
   pub flushed : Bool
 
+-- what is seen of a sink
 abbrev pub sink_seen : Option (List ℕ) → ℕ → Bool → SinkSeen
 sink_seen taken writes flushed = record { taken = taken; writes = writes; flushed = flushed }
 

@@ -10,7 +10,7 @@ use adlb_io::{Sink, write_all};
 use std::alloc::Global;
 
 /// Writes the text of `count` puzzles drawn from a seed (`made_text`), and flushes. `MakesTo` says how it ends: at `Ok`
-/// the sink took exactly the text. `Write` comes only if the sink's count of faults rose (or stands at its last
+/// the sink took exactly the text. `Write` comes only if the sink's count of faults rose (or is at its last
 /// value). At `Write` and `Memory`, its only other error, a part of the text's front was taken, which may be nothing.
 pub fn write_made<K: Sink>(
     alloc: Global,

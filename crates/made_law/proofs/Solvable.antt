@@ -30,7 +30,7 @@ AreApart xs = (i j : ℕ) → i < length xs → j < length xs → i ≢ j → ge
 
 -- An exchange.
 
--- what stands at place k after it stood at place p before
+-- what is at place k after it was at place p before
 abbrev Goes : ℕ → ℕ → ℕ → ℕ → Type 0
 Goes a b k p = ((k ≡ b) × (p ≡ a)) ⊎ ((k ≢ b) × (k ≡ a) × (p ≡ b)) ⊎ ((k ≢ b) × (k ≢ a) × (p ≡ k))
 

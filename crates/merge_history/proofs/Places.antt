@@ -70,7 +70,7 @@ in_range f from zero k h = absurd (omega (arith, h))
 in_range f from (suc n) zero h = ap (λ j. Some (f j)) (omega arith)
 in_range f from (suc n) (suc k) h = in_range f (from + 1) n k (omega (arith, h)) ∙ ap (λ j. Some (f j)) (omega arith)
 
--- the actors that stand at a place
+-- the actors that are at a place
 pub rank_there : (config : Config) (k : ℕ) → k < config.ranks → slice_get (actors_of config) k ≡ Some (rank_at k)
 rank_there config k below =
     let ranks : List Actor = map rank_at (range_with_len 0 config.ranks) in

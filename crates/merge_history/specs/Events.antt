@@ -5,6 +5,7 @@ use Rattle.adlb_unit.specs.declared.letters.Sending.{Sending}
 use Rattle.bag_ledger.specs.declared.entries.Entry.{Entry}
 use Rattle.merge_history.specs.declared.causes.Cause.{Cause}
 
+-- one event of an actor
 pub record Event : Type 0 where
   pub stamp : ℕ
   pub cause : Cause

@@ -13,6 +13,7 @@ use Rattle.journal_law.specs.Orders.{IsMerged, Rises}
 use Rattle.merge_history.specs.Events.{Event, OfActor}
 use Rattle.packed_ledger.specs.declared.stamped.Stamped.{Stamped}
 
+-- the stamp of an event
 abbrev pub stamp_of : Event → ℕ
 stamp_of e = e.stamp
 
@@ -46,6 +47,7 @@ joined events = flat_map (λ x. x.1.entries) events
 
 -- What is kept, in one order.
 
+-- the stamp of what is kept
 abbrev pub stamp_at : Stamped → ℕ
 stamp_at x = x.stamp
 

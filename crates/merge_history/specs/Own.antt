@@ -33,6 +33,7 @@ client_step config s (causes.Called call) = begin s call
 client_step config s (causes.Got (by.Rank from) letter) = None
 client_step config s (causes.Got (by.Server from) letter) = if nat_lt from.0 config.servers then hear s from letter else None
 
+-- the step of a server by its cause, if it has one
 abbrev pub pool_step : Config → ServerModel → Cause → Option Served
 pool_step config s (causes.Called call) = None
 pool_step config s (causes.Got from letter) = if is_within config from && not (has_ended s) then serve s from letter else None
@@ -45,6 +46,7 @@ ClientWalks config s (e ∷ es) last =
     (x : Made) × (client_step config s e.cause ≡ Some x) × (e.stamp ≡ x.state.clock) × (e.sends ≡ x.sends) × (e.entries ≡ x.entries)
     × ClientWalks config x.state es last
 
+-- the events are steps of the server, one after the other
 abbrev pub PoolWalks : Config → ServerModel → List Event → ServerModel → Type 0
 PoolWalks config s [] last = s ≡ last
 PoolWalks config s (e ∷ es) last =
@@ -61,6 +63,7 @@ abbrev pub Walks : Config → Finals → Actor → List Event → Type 0
 Walks config finals (by.Rank rank) events = ClientWalks config (new_client config rank) events (finals.client rank)
 Walks config finals (by.Server server) events = PoolWalks config (new_pool config server) events (finals.pool server)
 
+-- the stamp is above that of the letter that was got
 abbrev pub IsAbove : ℕ → Cause → Type 0
 IsAbove stamp (causes.Called call) = Unit {0}
 IsAbove stamp (causes.Got from letter) = letter.stamp < stamp
@@ -70,6 +73,7 @@ pub record IsTimed (e : Event) : Type 0 where
   pub bears : All (λ y. y.letter.stamp ≡ e.stamp) e.sends
   pub above : IsAbove e.stamp e.cause
 
+-- a journal is its actor's own run
 pub record IsOwnRun (config : Config) (finals : Finals) (journal : OfActor) : Type 0 where
   pub walks : Walks config finals journal.actor journal.events
   pub timed : All IsTimed journal.events
@@ -90,6 +94,7 @@ abbrev pub sent : Config → ℕ → List Event → List Letter
 sent config to [] = []
 sent config to (e ∷ es) = letters_to config to e.sends ++ sent config to es
 
+-- the letters that a journal got from an actor
 abbrev pub got : Config → ℕ → List Event → List Letter
 got config from [] = []
 got config from (e ∷ es) = letter_from config from e.cause ++ got config from es

@@ -13,11 +13,12 @@ use adlb_unit::NoMemory;
 use packed_ledger::{Kept, Ledger};
 use std::alloc::Global;
 
-/// The entries that all actors of a run kept, in one ledger. They are by stamp, among equal stamps by actor, the ranks
-/// before the servers, and of one actor in its order (`IsLedgerOf`), if in what each actor kept stamps do not fall.
+/// The entries that all actors of a run kept, in one ledger. They are ordered by stamp, then by actor, the ranks
+/// before the servers, and of one actor in its own order (`IsLedgerOf`). It is asked that stamps do not fall in what
+/// each actor kept.
 ///
-/// If it is what is kept of journals that compose, there is one history of all their events, which is a run of all actors, and
-/// the ledger has its entries (`IsOneHistory`). No event is held. Its only error is `NoMemory`.
+/// If it is what is kept of journals that compose, there is one history of all their events: a run of all actors,
+/// with the entries of the ledger (`IsOneHistory`). No event is held. Its only error is `NoMemory`.
 pub fn merge(alloc: Global, kept: Vec<Kept>) -> Result<Ledger, NoMemory>
     ensures merged { IfOk result (λ ledger. AllClimb (map (λ k. k.entries) kept.items) → IsLedgerOf (map (λ k. k.entries) kept.items) ledger) }
     ensures run { IfOk result (λ ledger. (config : Config) (journals : List OfActor) (finals : Finals)

@@ -8,6 +8,7 @@ use Rattle.packed_ledger.specs.declared.stamped.Stamped.{Stamped}
 abbrev pub entry_size : ℕ
 entry_size = 160
 
+-- the bytes that an entry takes at most
 abbrev pub size_of : Entry → ℕ
 size_of (enters.Putting rank call kind prio target answer body) = entry_size + length body
 size_of (enters.Keeping rank call common) = entry_size + length common
@@ -22,6 +23,7 @@ pub record KeptModel : Type 0 where
   pub entries : List Stamped
   pub room : ℕ
 
+-- an entry with its stamp
 abbrev pub stamped : ℕ → Entry → Stamped
 stamped stamp entry = record { stamp = stamp; entry = entry }
 

@@ -29,7 +29,7 @@ pub(crate) fn push_groups(bytes: &mut Vec<u8>, most: usize, number: u64)
     push_groups(bytes, most - 1, number / 128)
 }
 
-/// The number whose groups, at most `most`, stand in front, and what follows them.
+/// The number whose groups, at most `most`, come first, and what follows them.
 pub(crate) fn read_groups(bytes: &[u8], most: usize) -> (u64, &[u8])
     ensures { (n : ℕ) (rest : List ℕ) → n < 2 ^ 64 → n < 128 ^ most → bytes.now ≡ groups most n ++ rest →
         (result.0 ≡ n) × (result.1.now ≡ rest) }
@@ -54,7 +54,7 @@ pub(crate) fn read_groups(bytes: &[u8], most: usize) -> (u64, &[u8])
     }
 }
 
-/// The number below 2 ^ 32 whose groups stand in front, and what follows them.
+/// The number below 2 ^ 32 whose groups come first, and what follows them.
 pub(crate) fn read_short(bytes: &[u8]) -> (u32, &[u8])
     ensures { (n : ℕ) (rest : List ℕ) → n < 2 ^ 32 → bytes.now ≡ groups 5 n ++ rest → (result.0 ≡ n) × (result.1.now ≡ rest) }
 {
@@ -89,7 +89,7 @@ pub(crate) fn mark(number: u64) -> u8
     if number == 0 { 0 } else { 1 }
 }
 
-/// The number whose groups stand in front if the mark is 1, and otherwise 0, and what follows it.
+/// The number whose groups come first if the mark is 1, and otherwise 0, and what follows it.
 pub(crate) fn read_long_part(bytes: &[u8], marked: u8) -> (u64, &[u8])
     ensures { (n : ℕ) (rest : List ℕ) → n < 2 ^ 64 → marked ≡ mark n → bytes.now ≡ part 10 n ++ rest →
         (result.0 ≡ n) × (result.1.now ≡ rest) }
@@ -111,7 +111,7 @@ pub(crate) fn read_short_part(bytes: &[u8], marked: u8) -> (u32, &[u8])
     read_short(bytes)
 }
 
-/// The byte in front, or 0 if there is none, and what follows it.
+/// The first byte, or 0 without one, and what follows it.
 pub(crate) fn read_byte(bytes: &[u8]) -> (u8, &[u8])
     ensures { (b : ℕ) (rest : List ℕ) → bytes.now ≡ b ∷ rest → (result.0 ≡ b) × (result.1.now ≡ rest) }
 {

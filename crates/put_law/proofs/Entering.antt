@@ -183,6 +183,7 @@ done_pends n last hands rank r going there = by_case (going.calling rank r there
     by_case (inl u) = absurd (orderly_none n (hands rank).held (hands rank).batch u.orderly)
     by_case (inr t) = by_leaves t.leaves
 
+-- in a legal run of orderly ranks, a rank's Putting entries are the puts that it called, in order
 pub entered_is : (config : Config) (ledger : List Entry) (last : Bag) → 0 < config.ranks → IsRun (start config) ledger last →
     AreOrderly config ledger →
     (rank : Rank) → rank.0 < config.ranks → entered ledger rank ≡ called (calls config ledger rank)

@@ -12,6 +12,7 @@ abbrev pub put_in : Entry → Option (Rank × Call)
 put_in (Putting rank call kind prio target answer body) = Some (rank, calls_to.Put kind prio target answer body)
 put_in e = None
 
+-- the put, if it is by the rank
 abbrev pub by_rank : Rank → Option (Rank × Call) → List Call
 by_rank rank None = []
 by_rank rank (Some (by, call)) = if by.0 == rank.0 then call ∷ [] else []
@@ -25,5 +26,6 @@ abbrev pub put_of : Call → List Call
 put_of (calls_to.Put kind prio target answer body) = calls_to.Put kind prio target answer body ∷ []
 put_of call = []
 
+-- the puts of a transcript
 abbrev pub called : List Said → List Call
 called said = flat_map (λ s. put_of s.call) said

@@ -29,6 +29,7 @@ push_is to id sent p e =
     let bits : p.sent ≡ sent = sent_is sent p.sent t.1 in
     rw (← servers, ← ids, ← bits) refl
 
+-- a push made for a unit and a server passes their test
 pub push_from : (to : Server) (id : UnitId) (n : ℕ) (sent : Bool) → is_push_as to id sent (of to id n sent) ≡ true
 push_from to id n sent =
     and_from (to.0 == to.0) (same_unit id id && is_sent sent sent) (eq-eqb to.0 to.0 refl)
@@ -55,5 +56,6 @@ answers_as push p to id sent r stands answer =
 pub asks_says : (p : Pushing) (to : Server) (id : UnitId) → (asks p to id ≡ true) ↔ Asks p to id
 asks_says p to id = as_says p.push to id false
 
+-- the test finds a unit sent to a server exactly if the push has sent it there
 pub sent_says : (p : Pushing) (to : Server) (id : UnitId) → (sent_to p to id ≡ true) ↔ HasSent p to id
 sent_says p to id = as_says p.push to id true

@@ -83,9 +83,11 @@ abbrev pub some_push : (StandingPush → Bool) → Option StandingPush → Bool
 some_push test None = false
 some_push test (Some p) = test p
 
+-- the server is asked for room for the unit
 abbrev pub asks : Pushing → Server → UnitId → Bool
 asks p to id = some_push (is_push_as to id false) p.push
 
+-- the unit, or a cancel of it, was sent to the server
 abbrev pub sent_to : Pushing → Server → UnitId → Bool
 sent_to p to id = some_push (is_push_as to id true) p.push
 
@@ -93,6 +95,7 @@ sent_to p to id = some_push (is_push_as to id true) p.push
 abbrev pub is_query : Pushing → Bool
 is_query p = some_push (λ s. not s.sent) p.push
 
+-- the unit, or a cancel of it, was sent
 abbrev pub is_under_way : Pushing → Bool
 is_under_way p = some_push (λ s. s.sent) p.push
 
@@ -106,6 +109,7 @@ shown p = (p.to, p.id, p.sent)
 abbrev pub IsPressed : Config → Queue → Type 0
 IsPressed config q = config.limit - config.limit / 8 < charge_of q
 
+-- what `IsPressed` says, as a test
 abbrev pub is_pressed : Config → Queue → Bool
 is_pressed config q = nat_lt (config.limit - config.limit / 8) (charge_of q)
 
@@ -113,7 +117,7 @@ is_pressed config q = nat_lt (config.limit - config.limit / 8) (charge_of q)
 abbrev pub next_to : Config → Server → ℕ → Server
 next_to config me pushes = behind config me (pushes % (config.servers - 1) + 1)
 
--- one more was begun; the count is a number of 64 bits, and stands still at the last of them
+-- one more was begun; the count is a number of 64 bits, and stays at the last of them
 abbrev pub one_more : ℕ → ℕ
 one_more pushes = min (pushes + 1) (2 ^ 64 - 1)
 
@@ -133,6 +137,7 @@ query_of config me p q = if may_push config p q then option_map (query_to config
 abbrev pub begun : Pushing → PushQuery → Pushing
 begun p q = record { push = Some (asks_room q.to q.id q.length); pushes = one_more p.pushes }
 
+-- the push that begins, if there is one
 abbrev pub begun_if : Pushing → Option PushQuery → Pushing
 begun_if p None = p
 begun_if p (Some q) = begun p q
@@ -144,8 +149,7 @@ abbrev pub IsPromise : Queue → UnitId → ℕ → Bool → Queue → Type 0
 IsPromise old id n true new = (charge_of old + n ≤ old.limit) × (new ≡ with_promise old id n)
 IsPromise old id n false new = Exceeds old n × (new ≡ old)
 
--- at the server that asked, after a promise: the unit goes, which is free and is then gone from the queue; or it is free no
--- longer, and a cancel goes
+-- At the server that asked, after a promise. The unit, if it is free, goes and is then gone from the queue; otherwise a cancel goes.
 abbrev pub IsSending : Queue → Server → UnitId → Push → Queue → Type 0
 IsSending old to id (Go server unit) new =
     (server ≡ to) × HasFree id old.units × All (λ p. id_of p ≡ id → unit ≡ p.unit) old.units × (new ≡ without old id)

@@ -64,10 +64,10 @@ impl PushState {
         }
     }
 
-    /// Begins a push exactly if there are several servers, no push of this one stands, the charge of its queue is above
-    /// the run's limit less an eighth (`IsPressed`), and some free unit has target any (`IsMovable`). The answer is the
-    /// query: of the unit that goes first (`IsFirstToPush`), to the other servers in turn (`next_to`). The push then
-    /// stands as this query. With `None` nothing changes.
+    /// Begins a push exactly if there are several servers, this one has no push, its queue is pressed, and some free
+    /// unit has target any (`IsMovable`). A queue is pressed if its charge is above the run's limit less an eighth
+    /// (`IsPressed`). The answer is the query: of the unit that goes first (`IsFirstToPush`), to the other servers
+    /// in turn (`next_to`). The push then stands as this query. With `None` nothing changes.
     pub fn pressure(&mut self, queue: &WorkQueue) -> Option<PushQuery>
         ensures begins { IsSome result ↔
             ((1 < self.old.config.servers) × (self.old.pushing.push ≡ None) × IsPressed self.old.config queue.now

@@ -32,6 +32,7 @@ use Rattle.puzzle_app.proofs.Calling.{OfEach, of_move}
 
 -- The batches that are still to be begun.
 
+-- tasks that put units have no batch
 pub no_batches : (units : List Made) (tasks : List Task) → batches_in (put_all units ++ tasks) ≡ batches_in tasks
 unfolding batches_in
 no_batches [] tasks = refl
@@ -122,6 +123,7 @@ came_all came common jobs =
 none_more : (xs ys : List Call) → ys ≡ [] → xs ≡ xs ++ ys
 none_more xs ys e = sym (ap (λ z. xs ++ z) e ∙ append-nil xs)
 
+-- what one call brings: what came, what is held, and the batches that are left
 pub record Came (b : Books) (s : Said) (next : Books) : Type 0 where
   pub came : came_calls next.came ≡ came_calls b.came ++ comes b.held (batches_in b.tasks) s.call s.answer
   pub holds : next.held ≡ note_of s.answer
@@ -223,6 +225,7 @@ all_came grain b (s ∷ said) last goes =
     ∙ ap (λ x. x ++ rest) is.came
     ∙ append_assoc (came_calls b.came) here rest
 
+-- what came by the calls is what the books say came
 pub came_is : (p : PuzzleProgram) (said : List Said) (last : Books) → Goes p.settings.grain (start_of p) said last →
     all_come None (batches_in (tasks_of p)) said ≡ came_calls last.came
 came_is p said last goes = sym (all_came p.settings.grain (start_of p) said last goes)
@@ -233,7 +236,7 @@ put_units : (units : List Made) (tasks : List Task) → all_units (put_all units
 put_units [] tasks = refl
 put_units (x ∷ units) tasks = ap (λ us. x ∷ us) (put_units units tasks)
 
--- what comes with a call, and the units that it puts. What is made then stands among the units that are put or to be put, or no server
+-- what comes with a call, and the units that it puts. What is made then is among the units that are put or to be put, or no server
 -- takes its batch
 pub record Adds (grain : ℕ) (b : Books) (s : Said) (next : Books) : Type 0 where
   pub extra : List Arrival
@@ -421,6 +424,7 @@ sums grain b (s ∷ said) last goes =
           );
     }
 
+-- what the work makes is what was put, is still to be put, or is in refused batches
 pub puts_sum : (p : PuzzleProgram) (said : List Said) (last : Books) → Goes p.settings.grain (start_of p) said last →
     IsPermutation (map put_of (all_made p last.came))
     (puts said ++ map put_of (all_units last.tasks ++ all_refused (batches_in (tasks_of p)) said))
@@ -439,5 +443,6 @@ puts_sum p said last goes =
     subst (λ w. IsPermutation (map put_of (all_made p w)) (puts said ++ map put_of (left ++ back))) (sym is.came)
     (subst (λ l. IsPermutation (map put_of (first ++ more)) l) split calls)
 
+-- after a call the rank holds the unit of its answer, if it is a grant
 pub move_holds : (grain : ℕ) (b next : Books) (s : Said) → Moves grain b s next → next.held ≡ note_of s.answer
 move_holds grain b next s move = let came : Came b s next = of_move grain Came (each_came grain) b s next move in came.holds

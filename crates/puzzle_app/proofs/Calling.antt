@@ -61,6 +61,7 @@ pub record OfEach (grain : ℕ) (P : Books → Said → Books → Type 0) : Type
       P (holding note came) (said_of (Fetch note.id) (Body bytes))
       (brought grain (common_bytes note.length bytes) (unit_fetched note bytes) came)
 
+-- what holds of each kind of move holds of every move
 pub of_move : (grain : ℕ) (P : Books → Said → Books → Type 0) → OfEach grain P → (b : Books) (s : Said) (next : Books) →
     Moves grain b s next → P b s next
 of_move grain P each b s next (accepted x rest on came fits e f g) = moved P e f g (each.at_accepted x rest on came fits)
@@ -111,6 +112,7 @@ goes_own grain b (s ∷ said) last goes =
     let P : Said → Type 0 = λ s. is_own s.call ≡ true in
     All-cons P s said (of_move grain IsOwn (each_own grain) b s goes.0 goes.1) (goes_own grain goes.0 said last goes.2)
 
+-- all calls so far are the program's own
 pub so_own : (p : PuzzleProgram) (said : List Said) → IsSoFar p said → All (λ (s : Said). is_own s.call ≡ true) said
 so_own p said is = goes_own p.settings.grain (start_of p) said is.last is.goes
 
@@ -146,6 +148,7 @@ goes_split grain b [] more last goes = (b, refl, goes)
 goes_split grain b (s ∷ said) more last goes =
     let later = goes_split grain goes.0 said more last goes.2 in (later.0, (goes.0, goes.1, later.1), later.2)
 
+-- the front of a transcript is a transcript so far
 pub so_front : (p : PuzzleProgram) (said more : List Said) → IsSoFar p (said ++ more) → IsSoFar p said
 so_front p said more is =
     let split = goes_split p.settings.grain (start_of p) said more is.last is.goes in record { last = split.0; goes = split.1 }
@@ -182,6 +185,7 @@ each_asks grain = record {
   at_fetched = λ came note bytes types e. absurd (cc);
 }
 
+-- a rank reserves any type, and only if it has no task, no batch and no unit
 pub move_asks : (grain : ℕ) (b next : Books) (s : Said) (types : Option (List WorkType)) → Moves grain b s next → s.call ≡ Reserve types →
     (types ≡ None) × (b.tasks ≡ []) × (b.on ≡ None) × (b.held ≡ None)
 move_asks grain b next s types move = of_move grain IsAsking (each_asks grain) b s next move types
@@ -204,6 +208,7 @@ each_fetches grain = record {
   at_fetched = λ came n bytes note e. let same : n ≡ note = cc in ap (λ (m : UnitNote). Fetch m.id) same;
 }
 
+-- a rank that holds a unit fetches it
 pub move_fetches : (grain : ℕ) (b next : Books) (s : Said) (note : UnitNote) → Moves grain b s next → b.held ≡ Some note →
     s.call ≡ Fetch note.id
 move_fetches grain b next s note move = of_move grain IsFetching (each_fetches grain) b s next move note
@@ -239,6 +244,7 @@ each_begins grain = record {
   at_fetched = λ came note bytes other e. absurd (cc);
 }
 
+-- a batch is begun only as the next task, and outside another
 pub move_begins : (grain : ℕ) (b next : Books) (s : Said) (common : List ℕ) → Moves grain b s next → s.call ≡ BeginBatch common →
     (jobs : List Job) × (rest : List Task) × (b.tasks ≡ Begin common jobs ∷ rest) × (b.on ≡ None)
 move_begins grain b next s common move = of_move grain Begins (each_begins grain) b s next move common
@@ -332,6 +338,7 @@ each_within grain = record {
   at_fetched = λ came note bytes is other e. absurd (cc);
 }
 
+-- a call inside a batch is one that may be made there
 pub goes_within : (p : PuzzleProgram) (said : List Said) (mid next : Books) (s : Said) (common : List ℕ) →
     Goes p.settings.grain (start_of p) said mid →
     Moves p.settings.grain mid s next → mid.on ≡ Some common → is_within s.call ≡ true
@@ -375,6 +382,7 @@ goes_on_on grain b [] last same = ap (λ (x : Books). is_some x.on) same
 goes_on_on grain b (s ∷ said) last goes =
     ap (λ on. open_after on said) (of_move grain TellsOn (each_on grain) b s goes.0 goes.1) ∙ goes_on_on grain goes.0 said last goes.2
 
+-- a transcript is open exactly if the books have a call that goes on
 pub so_on : (p : PuzzleProgram) (said : List Said) (last : Books) → Goes p.settings.grain (start_of p) said last →
     is_open said ≡ is_some last.on
 so_on p said last goes = goes_on_on p.settings.grain (start_of p) said last goes
@@ -399,6 +407,7 @@ each_last grain = record {
   at_fetched = λ came note bytes e. absurd (cc);
 }
 
+-- a rank that was told an end makes no call but the end of its batch
 pub move_last : (grain : ℕ) (b next : Books) (s : Said) → Moves grain b s next → b.ended ≡ true →
     (s.call ≡ EndBatch) × (is_some b.on ≡ true) × (next.ended ≡ true)
 move_last grain b next s move = of_move grain IsLast (each_last grain) b s next move
@@ -447,6 +456,7 @@ or_false : (a : Bool) → a ≡ (a || false)
 or_false true = refl
 or_false false = refl
 
+-- the transcript tells an end exactly if the books say so
 pub so_told : (p : PuzzleProgram) (said : List Said) (last : Books) → Goes p.settings.grain (start_of p) said last →
     is_some (end_told said) ≡ last.ended
 so_told p said last goes = or_false (is_some (end_told said)) ∙ goes_told p.settings.grain (start_of p) said last goes

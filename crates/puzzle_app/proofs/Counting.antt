@@ -11,7 +11,7 @@ use Rattle.job_units.proofs.Same.{same_unit, unit_test}
 abbrev one_if : (Made → Bool) → Made → ℕ
 one_if p x = cond (p x) 1 0
 
--- what is counted stands in the list
+-- what is counted is in the list
 counted_there : (x : Made) (ys : List Made) → 1 ≤ count_by (same_unit x) ys → Contains ys x
 counted_there x [] some = absurd (omega arith)
 counted_there x (y ∷ ys) some = elim (cases_Bool (same_unit x y)) [
@@ -30,6 +30,7 @@ counts_itself x xs =
     let plus : Bool → ℕ = λ b. cond b 1 0 + count_by (same_unit x) xs in
     sum_by-cons (one_if (same_unit x)) x xs ∙ ap plus ((unit_test x x).1 refl)
 
+-- units that every test counts alike are a reordering
 pub units_by_counts : (xs ys : List Made) → ((p : Made → Bool) → count_by p xs ≡ count_by p ys) → IsPermutation xs ys
 units_by_counts [] [] same = IsPermutation-refl []
 units_by_counts [] (y ∷ ys) same =

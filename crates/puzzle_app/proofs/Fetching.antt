@@ -128,6 +128,7 @@ module _ (note : UnitNote) (bytes : List ℕ) where
   abbrev own : List ℕ
   own = own_bytes note.length bytes
 
+  -- the bytes are read as a unit exactly if they are a fetch of it
   pub reads_is : (x : Made) → (unit_fetched note bytes ≡ Some x) ↔ IsFetchOf note bytes x
   reads_is x = (
     λ e.
@@ -146,6 +147,7 @@ same_option (Some x) b there back = sym (there x refl)
 same_option None (Some y) there back = back y refl
 same_option None None there back = refl
 
+-- what agrees with each fetch is what is read
 pub fetched_is : (note : UnitNote) (bytes : List ℕ) (unit : Option Made) → ((x : Made) → (unit ≡ Some x) ↔ IsFetchOf note bytes x) →
     unit ≡ unit_fetched note bytes
 fetched_is note bytes unit is =

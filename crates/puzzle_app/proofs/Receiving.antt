@@ -25,6 +25,7 @@ board_comes_so grain common b d e works = record {
   few_answered = omega (arith, works.answered);
 }
 
+-- a board that comes is worked as its walk says
 pub board_comes : (grain : ℕ) (common : List ℕ) (unit : Made) (b : Board) (d e : Desk) (result : Result (Unit {0}) NoMemory) →
     unit ≡ made.Board b →
     OnOk result (Works grain b d e) → OnOk result (Receives grain (arrival common unit) d e)

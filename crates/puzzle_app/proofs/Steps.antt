@@ -68,12 +68,14 @@ pub record Popped (x : Made) (d e : Desk) : Type 0 where
   pub first : d.waiting.items ≡ x ∷ e.waiting.items
   pub same : Same d e
 
+-- the last unit that waits is popped
 pub popped_off : (x : Made) (d e : Desk) → d.waiting.items ≡ x ∷ e.waiting.items → Popped x d (record d { waiting = e.waiting })
 popped_off x d e first = record {
   first = first;
   same = record { kept = refl; answers = refl; overs = refl; boards = refl; found = refl; jobs = refl; answered = refl };
 }
 
+-- a put that is accepted is a step of the program
 pub accepted_is : (p : PuzzleProgram) (said new : List Said) (d e : Desk) (x : Made) (rest : List Task) (on : Option (List ℕ)) →
     IsGoing p said d rest on →
     Popped x d e → IsUnit x → new ≡ said ++ said_of (put_of x) Fine ∷ [] → IsGoing p new e rest on
@@ -93,6 +95,7 @@ received_same grain a e f rest on came more =
     desk_same rest on (came ++ a ∷ []) more.waiting
     ∙ ap (λ ts. going ts on (came ++ a ∷ [])) (put_more (makes grain a) e.waiting.items rest)
 
+-- a put that is rejected is a step, and the rank works the unit itself
 pub rejected_is : (p : PuzzleProgram) (said new : List Said) (d e f : Desk) (x : Made) (common : List ℕ) (rest : List Task)
     (on : Option (List ℕ)) →
     IsGoing p said d rest on → bytes_on on ≡ common → Popped x d e → new ≡ said ++ said_of (put_of x) Rejected ∷ [] →
@@ -111,6 +114,7 @@ rejected_is p said new d e f x common rest on is bytes popped one more =
           (longer said new (said_of (put_of x) Rejected) one);
     }
 
+-- a put that ends stops the program
 pub stopped_is : (p : PuzzleProgram) (said new : List Said) (d e : Desk) (x : Made) (end : told_end.End) (rest : List Task)
     (on : Option (List ℕ)) →
     IsGoing p said d rest on → Popped x d e → new ≡ said ++ said_of (put_of x) (Ended end) ∷ [] → IsStopped p new e on
@@ -123,6 +127,7 @@ stopped_is p said new d e x end rest on is popped one = record {
   tally = tally_same p is.came (length said) (length new) d e is.tally popped.same (long said new (said_of (put_of x) (Ended end)) one);
 }
 
+-- a reserve that ends stops the program
 pub told_is : (p : PuzzleProgram) (said new : List Said) (d : Desk) (end : told_end.End) → HasPut p said d [] None →
     new ≡ said ++ said_of (Reserve None) (Ended end) ∷ [] → IsStopped p new d None
 told_is p said new d end put one = record {
@@ -142,6 +147,7 @@ goes_granted p said new d note put one =
     one_more p said new (on_desk d.waiting.items [] None put.going.came) (holding note put.going.came) (grant note) put.going.goes one
     (granted put.going.came note (desk_same [] None put.going.came put.none) refl refl)
 
+-- a reserve that is granted is a step of the program
 pub granted_so : (p : PuzzleProgram) (said new : List Said) (d : Desk) (note : UnitNote) → HasPut p said d [] None →
     new ≡ said ++ grant note ∷ [] → IsSoFar p new
 granted_so p said new d note put one = record { last = holding note put.going.came; goes = goes_granted p said new d note put one }
@@ -157,6 +163,7 @@ goes_brought p said new d note bytes next put one is =
     (goes_granted p said (said ++ grant note ∷ []) d note put refl) one (fetch_moves p.settings.grain put.going.came note
     bytes next is)
 
+-- a unit that is fetched is worked, and the program goes on
 pub brought_is : (p : PuzzleProgram) (said new : List Said) (d f : Desk) (note : UnitNote) (bytes : List ℕ) → HasPut p said d [] None →
     new ≡ (said ++ grant note ∷ []) ++ said_of (Fetch note.id) (Body bytes) ∷ [] →
     Brings p.settings.grain (common_bytes note.length bytes) (unit_fetched note bytes) d f → IsGoing p new f [] None
@@ -191,6 +198,7 @@ brought_is p said new d f note bytes put one brings = by_unit (unit_fetched note
 
 -- Batches.
 
+-- a batch that is begun has its units to put, and then its end
 pub begun_is : (p : PuzzleProgram) (said new : List Said) (d : Desk) (common : List ℕ) (jobs : List units.Job) (rest : List Task) →
     IsGoing p said d (Begin common jobs ∷ rest) None → d.waiting.items ≡ [] → new ≡ said ++ said_of (BeginBatch common) Fine ∷ [] →
     IsGoing p new d (put_all (as_units jobs) ++ End ∷ rest) (Some common)
@@ -203,6 +211,7 @@ begun_is p said new d common jobs rest is none one = record {
   tally = tally_same p is.came (length said) (length new) d d is.tally (as_it_was d) (long said new (said_of (BeginBatch common) Fine) one);
 }
 
+-- a batch that is refused is answered by the rank itself
 pub refused_is : (p : PuzzleProgram) (said new : List Said) (d e : Desk) (common : List ℕ) (batch : ℕ) (items : List Item)
     (rest : List Task) →
     IsGoing p said d (Begin common (jobs_from batch 1 items) ∷ rest) None → d.waiting.items ≡ [] →
@@ -223,6 +232,7 @@ refused_is p said new d e common batch items rest is none one answers few =
           (longer said new (said_of (BeginBatch common) Rejected) one);
     }
 
+-- a batch that is refused is a step of the program
 pub refused_so : (p : PuzzleProgram) (said new : List Said) (d : Desk) (common : List ℕ) (jobs : List units.Job) (rest : List Task) →
     IsGoing p said d (Begin common jobs ∷ rest) None → d.waiting.items ≡ [] → new ≡ said ++ said_of (BeginBatch common) Rejected ∷ [] →
     IsSoFar p new
@@ -234,6 +244,7 @@ refused_so p said new d common jobs rest is none one = record {
       (refused common jobs rest is.came (desk_same (Begin common jobs ∷ rest) None is.came none) refl refl);
 }
 
+-- a batch that ends before it is begun stops the program
 pub unbegun_is : (p : PuzzleProgram) (said new : List Said) (d : Desk) (common : List ℕ) (jobs : List units.Job) (rest : List Task)
     (end : told_end.End) →
     IsGoing p said d (Begin common jobs ∷ rest) None → d.waiting.items ≡ [] → new ≡ said ++ said_of (BeginBatch common) (Ended end) ∷ [] →
@@ -284,6 +295,7 @@ passes_closed p said new d common rest false is one = closed_behind_is p said ne
 
 -- The calls so far.
 
+-- a rank that goes on has run its program so far
 pub going_so : (p : PuzzleProgram) (said new : List Said) (d : Desk) (rest : List Task) (on : Option (List ℕ)) → IsGoing p said d rest on →
     new ≡ said → IsSoFar p new
 going_so p said new d rest on is same = record {
@@ -291,9 +303,11 @@ going_so p said new d rest on is same = record {
   goes = subst (λ t. Goes p.settings.grain (start_of p) t (on_desk d.waiting.items rest on is.came)) (sym same) is.goes;
 }
 
+-- a rank that stopped has run its program so far
 pub stopped_so : (p : PuzzleProgram) (said : List Said) (d : Desk) (on : Option (List ℕ)) → IsStopped p said d on → IsSoFar p said
 stopped_so p said d on is = record { last = shut is.left on is.came; goes = is.goes }
 
+-- a rank that goes on or stopped has run its program so far
 pub passes_so : (p : PuzzleProgram) (said : List Said) (d : Desk) (rest : List Task) (on : Option (List ℕ)) (all : Bool) →
     Passes p said d rest on all → IsSoFar p said
 passes_so p said d rest on true put = going_so p said said d rest on put.going refl
@@ -328,6 +342,7 @@ small m n few short = omega arith
 wide : (m : ℕ) → m < 2 ^ 113 → m < 2 ^ 127
 wide m few = omega arith
 
+-- a desk has room for what fewer than 2^48 calls bring
 pub room_is : (p : PuzzleProgram) (said : List Said) (d e : Desk) (rest : List Task) (on : Option (List ℕ)) → IsGoing p said d rest on →
     Same d e → length said < 2 ^ 48 → HasRoom e
 room_is p said d e rest on is same short =
@@ -376,6 +391,7 @@ follows_is p said d outcome is short solutions overs answers made =
 fresh_is : (p : PuzzleProgram) (boards jobs : ℕ) (d : Desk) → d.waiting.items ≡ [] → IsTally p [] 0 d → IsGoing p [] d (tasks_of p) None
 fresh_is p boards jobs d none tally = record { came = []; goes = sym (desk_same (tasks_of p) None [] none); tally = tally }
 
+-- a rank without jobs begins with an empty desk
 pub begins_alone : (p : PuzzleProgram) (d : Desk) → p.jobs ≡ None → Fresh 0 0 d → IsGoing p [] d (tasks_of p) None
 begins_alone p d none fresh =
     let first : all_units (tasks_of p) ≡ [] = ap (λ js. all_units (tasks p.settings.budget js)) none in
@@ -383,6 +399,7 @@ begins_alone p d none fresh =
     (sym (ap (count_by (is_kind 1)) first))
     (sym (ap (count_by (is_kind 2)) first)) (sym (ap (count_by (is_kind 3)) first)) (omega arith) (omega arith))
 
+-- a rank with jobs begins with the units that they make
 pub begins_with : (p : PuzzleProgram) (d : Desk) (jobs : List Job) (boards items : ℕ) → p.jobs ≡ Some jobs →
     boards ≡ length (puzzles jobs) → items ≡ all_items jobs →
     boards ≤ 2 ^ 24 → items ≤ 2 ^ 48 → Fresh boards items d → IsGoing p [] d (tasks_of p) None
@@ -400,11 +417,14 @@ pub replied : (said new : List Said) (call : Call) (reply is : Reply) → new �
     new ≡ said ++ said_of call (answer_of is) ∷ []
 replied said new call reply is e same = e ∙ ap (λ r. said ++ said_of call (answer_of r) ∷ []) same
 
+-- a list with one element more is no shorter than before
 pub grows : {X : Type 0} (n : ℕ) (xs new : List X) (x : X) → n ≤ length xs → new ≡ xs ++ x ∷ [] → n ≤ length new
 grows n xs new x h e = omega (arith, h, length_push xs x, ap length e)
 
+-- where the test passes, the first case is so
 pub all_is : (A B : Type 0) (b : Bool) → b ≡ true → MatchBool b A B → A
 all_is A B b holds fact = subst (λ t. MatchBool t A B) holds fact
 
+-- where the test fails, the second case is so
 pub not_all_is : (A B : Type 0) (b : Bool) → b ≡ false → MatchBool b A B → B
 not_all_is A B b fails fact = subst (λ t. MatchBool t A B) fails fact

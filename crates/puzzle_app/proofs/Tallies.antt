@@ -64,6 +64,7 @@ count_one q p came a =
     ap (count_by q) (append-nil (makes p.settings.grain a)) in
     omega (arith, count_more q p came (a ∷ []), own)
 
+-- what a refused batch makes is the answers to its jobs
 pub made_over : (grain : ℕ) (common : List ℕ) (jobs : List units.Job) →
     flat_map (makes grain) (over_bytes common jobs) ≡ answers_to common jobs
 made_over grain common [] = refl
@@ -87,6 +88,7 @@ answers_all common [] = refl
 answers_all common (j ∷ jobs) =
     omega (arith, sum_by-cons (one_if (is_kind 3)) (made.Answer (answer_of common j)) (answers_to common jobs), answers_all common jobs)
 
+-- a batch has one unit for each item
 pub jobs_many : (b n : ℕ) (items : List Item) → length (jobs_from b n items) ≡ length items
 unfolding jobs_from
 jobs_many b n [] = refl
@@ -286,6 +288,7 @@ pub record Same (d e : Desk) : Type 0 where
   pub jobs : e.jobs ≡ d.jobs
   pub answered : e.answered ≡ d.answered
 
+-- a tally holds of an equal desk, and for more calls
 pub tally_same : (p : PuzzleProgram) (came : List Arrival) (n m : ℕ) (d e : Desk) → IsTally p came n d → Same d e → n ≤ m →
     IsTally p came m e
 tally_same p came n m d e is same later = record {
@@ -302,6 +305,7 @@ tally_same p came n m d e is same later = record {
   few_answered = omega (arith, same.answered, is.few_answered, later);
 }
 
+-- a desk is the same as itself
 pub as_it_was : (d : Desk) → Same d d
 as_it_was d = record { kept = refl; answers = refl; overs = refl; boards = refl; found = refl; jobs = refl; answered = refl }
 
@@ -325,6 +329,7 @@ pub record Counted (budget p b : ℕ) (input : List Job) : Type 0 where
   pub jobs : count_by (is_kind 2) (all_units (tasks_from budget p b input)) ≡ all_items input
   pub answered : count_by (is_kind 3) (all_units (tasks_from budget p b input)) ≡ 0
 
+-- the tasks of jobs make as many units of each type as the jobs have
 pub counted_tasks : (budget p b : ℕ) (jobs : List Job) → Counted budget p b jobs
 unfolding tasks_from puzzles
 counted_tasks budget p b [] = record { boards = refl; found = refl; jobs = refl; answered = refl }
@@ -366,6 +371,7 @@ pub record Fresh (m n : ℕ) (d : Desk) : Type 0 where
   pub jobs : d.jobs ≡ n
   pub answered : d.answered ≡ 0
 
+-- the tally of a desk at the start
 pub tally_fresh : (p : PuzzleProgram) (boards jobs : ℕ) (d : Desk) → Fresh boards jobs d →
     boards ≡ count_by (is_kind 0) (all_units (tasks_of p)) → 0 ≡ count_by (is_kind 1) (all_units (tasks_of p)) →
     jobs ≡ count_by (is_kind 2) (all_units (tasks_of p)) → 0 ≡ count_by (is_kind 3) (all_units (tasks_of p)) →

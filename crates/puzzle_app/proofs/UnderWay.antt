@@ -33,6 +33,7 @@ began_pends (Some trouble) was call now begun whole began = absurd (cc)
 pub none_pends : (failed : Option Trouble) (begun : Option Call) → failed ≡ None → unanswered failed begun ≡ None
 none_pends failed begun whole = ap (λ f. unanswered f begun) whole
 
+-- a rank whose link has not failed is under way with nothing begun
 pub whole_way : (p : PuzzleProgram) (said : List Said) (failed : Option Trouble) (begun : Option Call) → failed ≡ None → IsSoFar p said →
     IsUnderWay p said (unanswered failed begun)
 whole_way p said failed begun whole so = subst (λ x. IsUnderWay p said x) (sym (none_pends failed begun whole)) so

@@ -31,6 +31,7 @@ makes_of grain common (made.Board b) = made_by grain b
 makes_of grain common (made.Job j) = made.Answer (answer_of common j) ∷ []
 makes_of grain common _ = []
 
+-- what the work on an arrival makes
 abbrev pub makes : ℕ → Arrival → List Made
 makes grain a = makes_of grain a.common a.unit
 
@@ -39,13 +40,16 @@ abbrev pub solution_in : Made → List (ℕ × Cells)
 solution_in (made.Solution s) = (s.puzzle, s.grid) ∷ []
 solution_in _ = []
 
+-- the solutions that came
 abbrev pub solutions_in : List Arrival → List (ℕ × Cells)
 solutions_in came = flat_map (λ (a : Arrival). solution_in a.unit) came
 
+-- the answer of a unit, if it is one
 abbrev pub answer_in : Made → List (ℕ × ℕ × ℕ)
 answer_in (made.Answer a) = (a.batch, a.number, a.value) ∷ []
 answer_in _ = []
 
+-- the answers that came
 abbrev pub answers_in : List Arrival → List (ℕ × ℕ × ℕ)
 answers_in came = flat_map (λ (a : Arrival). answer_in a.unit) came
 
@@ -54,5 +58,6 @@ abbrev pub over_in : ℕ → ℕ → Made → Bool
 over_in grain n (made.Board b) = (b.puzzle == n) && (walk_of grain b).over
 over_in grain n _ = false
 
+-- the puzzle of the arrival is over
 abbrev pub is_over_at : ℕ → ℕ → Arrival → Bool
 is_over_at grain n a = over_in grain n a.unit

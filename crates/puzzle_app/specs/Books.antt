@@ -19,8 +19,8 @@ use Rattle.job_units.specs.Reading.{common_bytes, own_bytes}
 use Rattle.puzzle_app.specs.Arrivals.{Arrival, arrival, makes}
 use Rattle.puzzle_app.specs.Tasks.{Task, Put, Begin, End, as_units, put_all}
 
--- what the rank is still to do, in order; the common bytes of the batch that is going on; the unit that was granted and is to be
--- fetched; the units that came to the rank, in order; and whether an end was told
+-- What the rank is still to do, in order. The common bytes of the batch that is going on, and the unit that was granted and is to be
+-- fetched. The units that came to the rank, in order, and whether an end was told.
 pub record Books : Type 0 where
   pub tasks : List Task
   pub on : Option (List ℕ)
@@ -28,12 +28,15 @@ pub record Books : Type 0 where
   pub came : List Arrival
   pub ended : Bool
 
+-- books between calls
 abbrev pub going : List Task → Option (List ℕ) → List Arrival → Books
 going tasks on came = record { tasks = tasks; on = on; held = None; came = came; ended = false }
 
+-- books with a unit that is granted
 abbrev pub holding : UnitNote → List Arrival → Books
 holding note came = record { tasks = []; on = None; held = Some note; came = came; ended = false }
 
+-- books after an end was told
 abbrev pub shut : List Task → Option (List ℕ) → List Arrival → Books
 shut tasks on came = record { tasks = tasks; on = on; held = None; came = came; ended = true }
 
@@ -41,8 +44,8 @@ shut tasks on came = record { tasks = tasks; on = on; held = None; came = came; 
 abbrev pub received : ℕ → Arrival → List Task → Option (List ℕ) → List Arrival → Books
 received grain a tasks on came = going (put_all (makes grain a) ++ tasks) on (came ++ a ∷ [])
 
--- these are the bytes of a fetch of this unit: the note has the work type and the answer rank of a put of it, whose body is what the
--- fetch gave after the common bytes
+-- These are the bytes of a fetch of this unit. The note has the work type and the answer rank of a put of it, whose body is what the fetch
+-- gave after the common bytes.
 pub record IsFetchOf (note : UnitNote) (bytes : List ℕ) (unit : Made) : Type 0 where
   pub form : IsUnit unit
   pub prio : ℤ
@@ -58,10 +61,12 @@ brought grain common (Some unit) came = received grain (arrival common unit) [] 
 abbrev pub over_bytes : List ℕ → List Job → List Arrival
 over_bytes common jobs = map (arrival common) (as_units jobs)
 
+-- books after a batch was refused: its jobs are worked by the rank
 abbrev pub without_batch : ℕ → List ℕ → List Job → List Task → List Arrival → Books
 without_batch grain common jobs tasks came =
     going (put_all (flat_map (makes grain) (over_bytes common jobs)) ++ tasks) None (came ++ over_bytes common jobs)
 
+-- a call with its answer
 abbrev pub said_of : Call → Answer → Said
 said_of call answer = record { call = call; answer = answer }
 

@@ -20,6 +20,7 @@ answer_of replies.Accepted = answers.Fine
 answer_of replies.Rejected = answers.Rejected
 answer_of (replies.Ended end) = answers.Ended end
 
+-- the reply is that the call was accepted
 abbrev pub is_accepted : Reply → Bool
 is_accepted replies.Accepted = true
 is_accepted _ = false

@@ -31,8 +31,8 @@ abbrev pub IsUnderWay : PuzzleProgram → List Said → Option Call → Type 0
 IsUnderWay p said None = IsSoFar p said
 IsUnderWay p said (Some call) = (answer : Answer) × IsSoFar p (said ++ said_of call answer ∷ [])
 
--- the calls that it has made at its end, which was told, and its outcome: the solutions and the answers that stay with it, the numbers
--- of the puzzles that are over, and how many units it made. What was still to do then was not done
+-- The calls that it has made at its end, which was told, and its outcome. The outcome has the solutions and answers that stay with it, the
+-- numbers of the puzzles that are over, and how many units it made. What was still to do then was not done.
 pub record Follows (p : PuzzleProgram) (said : List Said) (outcome : Outcome) : Type 0 where
   pub left : List Task
   pub came : List Arrival

@@ -36,6 +36,7 @@ tasks budget (Some jobs) = tasks_from budget 1 1 jobs
 abbrev pub as_units : List units.Job → List Made
 as_units jobs = map made.Job jobs
 
+-- a put for each unit
 abbrev pub put_all : List Made → List Task
 put_all units = map Put units
 
@@ -45,5 +46,6 @@ units_of (Put unit) = unit ∷ []
 units_of (Begin common jobs) = as_units jobs
 units_of End = []
 
+-- the units of the tasks
 abbrev pub all_units : List Task → List Made
 all_units tasks = flat_map units_of tasks

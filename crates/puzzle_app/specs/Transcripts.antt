@@ -13,6 +13,7 @@ use Rattle.job_units.specs.Reading.{fetched}
 use Rattle.puzzle_app.specs.Arrivals.{Arrival}
 use Rattle.puzzle_app.specs.Tasks.{Task, Put, Begin, End, as_units}
 
+-- the call, if it is a put
 abbrev pub put_call : Call → List Call
 put_call (calls_to.Put kind prio target answer body) = calls_to.Put kind prio target answer body ∷ []
 put_call _ = []
@@ -31,6 +32,7 @@ note_of _ = None
 abbrev pub calls_of : List Made → List Call
 calls_of units = map put_of units
 
+-- the puts of what came
 abbrev pub came_calls : List Arrival → List Call
 came_calls came = map (λ (a : Arrival). put_of a.unit) came
 
@@ -51,6 +53,7 @@ abbrev pub refused : List (List Job) → Call → Answer → List Made
 refused (jobs ∷ batches) (calls_to.BeginBatch common) answers.Rejected = as_units jobs
 refused batches call answer = []
 
+-- the units of batches that were refused
 unfoldable pub all_refused : List (List Job) → List Said → List Made
 all_refused batches [] = []
 all_refused batches (s ∷ said) = refused batches s.call s.answer ++ all_refused (batches_after s.call batches) said
@@ -60,8 +63,8 @@ abbrev pub units_in : Option Made → List Made
 units_in None = []
 units_in (Some unit) = unit ∷ []
 
--- what comes to the rank with a call, as the calls that put it: a unit that no server takes; one that is fetched, whose note the call
--- before has; and the jobs of a batch that no server takes
+-- What comes to the rank with a call, as the calls that put it. It is a unit that no server takes; one that is fetched, whose note the call
+-- before has; or the jobs of a batch that no server takes.
 abbrev pub comes : Option UnitNote → List (List Job) → Call → Answer → List Call
 comes held batches (calls_to.Put kind prio target answer body) answers.Rejected = calls_to.Put kind prio target answer body ∷ []
 comes (Some note) batches (calls_to.Fetch id) (answers.Body bytes) = calls_of (units_in (fetched note bytes))

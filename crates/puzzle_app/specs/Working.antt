@@ -43,6 +43,7 @@ abbrev pub task_at : ℕ → Place → Job → Task
 task_at budget at (Puzzle g) = Put (child_of at.puzzle (budget, g))
 task_at budget at (Batch common items) = Begin common (jobs_from at.batch 1 items)
 
+-- the place after a job
 abbrev pub behind : Place → Job → Place
 behind at (Puzzle g) = record { puzzle = at.puzzle + 1; batch = at.batch }
 behind at (Batch common items) = record { puzzle = at.puzzle; batch = at.batch + 1 }

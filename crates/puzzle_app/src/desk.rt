@@ -18,8 +18,8 @@ use std::alloc::Global;
 use std::collections::VecDeque;
 use sudoku_rules::{Expansion, Grid, KeptGrid, expand};
 
-/// The units that wait to be put, in order; the solutions and the answers that stay with the rank; the puzzles that are
-/// over; and how many boards, solutions, jobs and answers were made.
+/// The units that wait to be put, in order. The solutions and the answers that stay with the rank, and the puzzles
+/// that are over. How many boards, solutions, jobs and answers were made.
 #[derive(Drop)]
 pub struct Desk {
     pub waiting: VecDeque<Made>,

@@ -30,7 +30,7 @@ pub fn calls_add_up()
 {}
 
 /// How a rank's calls go on. They are no other calls than puts, reservations, fetches, and beginnings and ends of
-/// batches (`own`), and Finish is not among them (`running`). Each call stands at its books (`each`), and the calls
+/// batches (`own`), and Finish is not among them (`running`). Each call agrees with its books (`each`), and the calls
 /// before it are such calls too (`front`). A reservation is of any type, and comes only when nothing is to be done, no
 /// batch goes on and nothing is held (`reserves`). Exactly the unit that a call grants is held after it (`grants`), and
 /// when one is held the next call is its fetch (`fetches`). A batch begins with its first task and when none goes on

@@ -15,7 +15,7 @@ use Rattle.puzzle_law.proofs.Sums.{count_one, one_if}
 
 -- of a type with a test of equality
 module _ (X : Type 0) (equal : X → X → Bool) (exact : (a b : X) → (equal a b ≡ true) ↔ (a ≡ b)) where
-  -- what is counted stands in the list
+  -- what is counted is in the list
   counted_there : (x : X) (ys : List X) → 1 ≤ count_by (equal x) ys → Contains ys x
   counted_there x [] some = absurd (omega arith)
   counted_there x (y ∷ ys) some = elim (cases_Bool (equal x y)) [

@@ -59,6 +59,7 @@ module _ (t : ℕ → Bool) (f : ℕ → Cells → ℕ) (h : Cells → ℕ) (bud
 
 -- in a weight by one puzzle, its board alone has weight
 module _ (f : ℕ → Cells → ℕ) (budget : ℕ) where
+  -- the roots of other puzzles weigh nothing
   pub other_root : (n m : ℕ) (g : Cells) (gs : List Cells) → (m ≡ n → ⊥) →
       roots_weigh (is_of n) f budget m (g ∷ gs) ≡ roots_weigh (is_of n) f budget (m + 1) gs
   unfolding roots_weigh
@@ -73,6 +74,7 @@ module _ (f : ℕ → Cells → ℕ) (budget : ℕ) where
   later_roots n m [] less = refl
   later_roots n m (g ∷ gs) less = other_root n m g gs (λ e. omega arith) ∙ later_roots n (m + 1) gs (omega arith)
 
+  -- the root of a puzzle weighs what its grid does
   pub its_root : (n : ℕ) (g : Cells) (gs : List Cells) → roots_weigh (is_of n) f budget n (g ∷ gs) ≡ f budget g
   unfolding roots_weigh
   its_root n g gs =

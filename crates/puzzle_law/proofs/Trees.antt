@@ -22,8 +22,8 @@ use Rattle.puzzle_law.proofs.Pieces.{over, pieces}
 use Rattle.puzzle_law.proofs.Sums.{at_most_one, none_if, one_if, sum_flat, sum_none, sum_one_more}
 use Rattle.puzzle_law.proofs.Weights.{answer_weight, job_weight, kept_weight, made_sum, made_weighs, told_weight, weight}
 
--- of a board with this budget and grid: its tree's solution nodes, how many of them pass a test, how many boards the tree hands
--- out, and whether some node is over, as 0 or 1, or as 0 or the number of its boards
+-- Of a board with this budget and grid: its tree's solution nodes, how many of them pass a test, and how many boards the tree hands out.
+-- Whether some node is over is 0 or 1, or 0 or the number of its boards.
 abbrev pub nodes : ℕ → Cells → List Cells
 nodes budget g = solutions (tree_of budget g)
 

@@ -37,6 +37,7 @@ busy s _ from m some = refl
 
 -- The fields stay sound.
 
+-- a fresh client that sends one letter and waits is sound
 pub waiting_sound : (s : ClientModel) (pending : Pending) (sent : List ℕ) (to : ℕ) → IsSound s → IsFresh s → to < s.config.servers
     → sent ≡ set s.sent to (get_or s.sent to 0 + 1) → IsSound (record s { pending = pending; sent = sent })
 waiting_sound s pending sent to sound fresh there is =
@@ -130,6 +131,7 @@ ended_inside i change pending room batch accepted end handles said more inside f
 
 -- A letter that is expected.
 
+-- a letter that can be heard: its client goes on, its stamp is low, and it is awaited
 pub record IsHeard (s : ClientModel) (from : Server) (letter : Letter) : Type 0 where
   pub going : s.finished ≡ false
   pub stamp : letter.stamp < 2 ^ 48
@@ -139,6 +141,7 @@ some_mapped : (o : Option ClientResponse) → IsSome (option_map made o) → IsS
 some_mapped None e = absurd (cc)
 some_mapped (Some z) e = refl
 
+-- a letter without trouble that has a step can be heard
 pub heard_is : (s : ClientModel) (from : Server) (letter : Letter) → told_trouble letter.message ≡ None
     → (IsSome (told_trouble letter.message) ⊎ IsSome (hear s from letter)) → IsHeard s from letter
 heard_is s from letter none (inl told) = absurd (cc)
@@ -152,6 +155,7 @@ heard_is s from letter none (inr some) = by_test (not s.finished && nat_lt lette
         record { going = not-true s.finished parts.0; stamp = ltb-true letter.stamp (2 ^ 48) parts.1; awaited = some_mapped _ some }
     by_test false is some = absurd (cc)
 
+-- an option that has no value is `None`
 pub none_left : {X : Type 0} (o : Option X) → ((x : X) → o ≡ Some x → ⊥) → o ≡ None
 none_left None other = refl
 none_left (Some x) other = absurd (other x refl)

@@ -42,6 +42,7 @@ use Rattle.rank_client.proofs.Entries.{rank_changed, same_unit_is, saying, silen
 
 -- What is sent does not matter here.
 
+-- an answer without letters
 abbrev pub bare : ClientResponse → Made
 bare z = record { state = z.state; sends = []; entries = z.entries; answer = z.answer }
 
@@ -69,6 +70,7 @@ post_said (y ∷ says) x = post_said says _ ∙ counted_said x.state y.to x.stat
 
 -- A rank that runs.
 
+-- what the bag has of a rank that is in no call
 pub record IsFree (s : ClientModel) (b : Bag) : Type 0 where
   pub rank : rank_at b s.me ≡ Some (running s)
   pub servers : b.servers ≡ s.config.servers
@@ -78,6 +80,7 @@ pub record IsFree (s : ClientModel) (b : Bag) : Type 0 where
   pub none : IsFalse (has_due b)
   pub going : s.finished ≡ false
 
+-- a client that passes the test waits for nothing
 pub idle_is : (p : Pending) → is_idle p ≡ true → p ≡ waits_for.Nothing
 idle_is waits_for.Nothing e = refl
 idle_is _ e = absurd (cc)
@@ -111,7 +114,7 @@ free_agrees s b nothing going rank servers caused held accepted = record {
   accepted = rw (going, nothing) accepted;
 }
 
--- the note that is found is that of the unit, and stands among the notes
+-- the note that is found is that of the unit, and is among the notes
 pub found_is : (P : UnitNote → Type 0) (id : UnitId) (notes : List UnitNote) (note : UnitNote)
     → find (λ n. same_unit n.id id) notes ≡ Some note → All P notes → (note.id ≡ id) × P note
 found_is P id [] note e all = absurd (cc)
@@ -146,6 +149,7 @@ module _ (found : Bag → Bool) where
   if_told before me b true z law = law
   if_told before me b false z law = tt
 
+  -- the law holds of what is made of an answer
   pub law_of_made : (before : List Said) (me : Rank) (b : Bag) (o : Option ClientResponse) (x : Made) → LawOf before me b o
       → option_map made o ≡ Some x → Holds before me b x
   law_of_made before me b None x law is = absurd (cc)

@@ -12,6 +12,7 @@ use Rattle.bag_ledger.specs.declared.entries.Call.TheVariants as calls_to
 use Rattle.rank_client.specs.Rules.{ClientResponse, open_call, put, unit_put}
 use Rattle.rank_client.specs.State.{ClientModel}
 
+-- what is so is so of a failure
 pub on_err : {T E P : Type 0} (r : Result T E) → P → OnErr r P
 on_err (Ok x) p = tt
 on_err (Err e) p = p

@@ -12,9 +12,11 @@ use Rattle.bag_ledger.specs.Bag.{Bag, rank_at, has_due}
 use Rattle.bag_ledger.specs.Runs.{calls_from, said_by, says}
 use Rattle.bag_ledger.specs.Steps.{LegalWhere, StepsWhere, after, change_at, is_freeing, with_rank}
 
+-- `Some` of two values is equal only if the values are
 pub some_is : {X : Type 0} {x y : X} → Some x ≡ Some y → x ≡ y
 some_is e = cc
 
+-- ids of units that pass the test are equal
 pub same_unit_is : (a b : UnitId) → same_unit a b ≡ true → a ≡ b
 same_unit_is a b e =
     let s = and_parts (a.rank.0 == b.rank.0) (a.number == b.number) e in
@@ -22,12 +24,14 @@ same_unit_is a b e =
     let numbers : a.number ≡ b.number = eqb-true a.number b.number s.1 in
     rw (← ranks, ← numbers) refl
 
+-- an element that is changed is found changed
 pub changed_at : {X : Type 0} (f : X → X) (xs : List X) (n : ℕ) (x : X) → slice_get xs n ≡ Some x
     → slice_get (change_at f n xs) n ≡ Some (f x)
 changed_at f [] n x e = absurd (cc)
 changed_at f (y ∷ xs) zero x e = let is : y ≡ x = some_is e in ap (λ z. Some (f z)) is
 changed_at f (y ∷ xs) (suc n) x e = changed_at f xs n x e
 
+-- a rank that is changed is found changed
 pub rank_changed : (b : Bag) (rank : Rank) (f : RankState → RankState) (r : RankState) → rank_at b rank ≡ Some r
     → rank_at (with_rank rank f b) rank ≡ Some (f r)
 rank_changed b rank f r e = changed_at f b.ranks rank.0 r e

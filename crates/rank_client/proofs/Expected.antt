@@ -49,6 +49,7 @@ some_map f (Some x) some = refl
 
 -- Tests.
 
+-- a request passes the test exactly if it is for this call and server
 pub for_is : (request : ℕ) (at from : Server) (to : ℕ) → (is_for request at from to ≡ true) ↔ IsFor request at from to
 for_is request at from to = (
   λ is. let parts = and_parts (to == request) (from.0 == at.0) is in (eqb-true to request parts.0, same_server_is from at parts.1),
@@ -59,6 +60,7 @@ at_server_is : (s : ClientModel) (o : Option CommonRef) → (is_at_server s o �
 at_server_is s None = (λ is. tt, λ is. refl)
 at_server_is s (Some common) = (ltb-true common.server.0 s.config.servers, lt-ltb common.server.0 s.config.servers)
 
+-- a note passes the test exactly if it is new to the client
 pub note_is : (s : ClientModel) (note : UnitNote) → (expects_note s note ≡ true) ↔ IsNewNote s note
 note_is s note = (
   λ is.
@@ -220,6 +222,7 @@ awaited_ticked s stamp (waits_for.Reserve request types) from m = reserve_ticked
 awaited_ticked s stamp (waits_for.Try request types tried) from m = look_ticked s stamp request tried from m
 awaited_ticked s stamp _ from m = (λ here. here, λ here. here)
 
+-- a letter that is expected is heard, and no other
 pub expected_are_heard : ExpectedAreHeard
 expected_are_heard s from letter =
     let stamp : ℕ = letter_stamp s letter in

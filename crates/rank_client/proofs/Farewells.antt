@@ -8,6 +8,7 @@ use Rattle.adlb_unit.specs.declared.letters.Sending.{Sending}
 use Rattle.rank_client.specs.Rules.{farewell}
 use Rattle.rank_client.specs.Step.{Made, post}
 
+-- sending one Finish leaves those to the servers after it
 pub one_more : (x : Made) (sent now : List ℕ) (sends all : List Sending) (letter : Sending) (stamp i n : ℕ) → x.state.clock ≡ stamp → i < n
     → now ≡ slice_set sent i (slice_index_or sent i 0 + 1)
     → letter ≡ sending stamp (slice_index_or sent i 0) (by.Server (farewell i).to) (farewell i).message → all ≡ sends ++ letter ∷ []

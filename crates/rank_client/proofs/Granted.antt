@@ -39,14 +39,17 @@ use Rattle.rank_client.proofs.Transcripts.{fetched_more, granted_more}
 
 -- Options.
 
+-- a value that is there if a test passes is the one given
 pub if_is : {X : Type 0} (t : Bool) (x y : X) → cond t (Some x) None ≡ Some y → x ≡ y
 if_is true x y e = some_is e
 if_is false x y e = absurd (cc)
 
+-- an option that is there if a test passes is there without the test
 pub if_there : {X : Type 0} (t : Bool) (o : Option X) (y : X) → cond t o None ≡ Some y → o ≡ Some y
 if_there true o y e = e
 if_there false o y e = absurd (cc)
 
+-- a mapped option that is there comes from an element that is there
 pub map_is : {X Y : Type 0} (f : X → Y) (o : Option X) (y : Y) → option_map f o ≡ Some y → (x : X) × (o ≡ Some x) × (f x ≡ y)
 map_is f None y e = absurd (cc)
 map_is f (Some x) y e = (x, refl, some_is e)
@@ -139,6 +142,7 @@ count_keeps s kind g = record { held = g.held; fetching = tt; fetched = g.fetche
 done_keeps : (s : ClientModel) → IsGrantedFirst s → Keeps (set_done s)
 done_keeps s g = record { held = g.held; fetching = tt; fetched = g.fetched }
 
+-- opening a call keeps that units are granted first
 pub open_keeps : (s : ClientModel) (call : Call) (y : ClientResponse) → open_call s call ≡ Some y → IsGrantedFirst s → Keeps y
 open_keeps s (calls_to.Put kind prio target answer body) y is g =
     subst Keeps (if_is _ _ y is) (put_keeps s (unit_put s kind prio target answer body) s.end g)
@@ -261,6 +265,7 @@ hear_done_keeps s request tried from (tells.DoneHeard to) y is g =
     subst Keeps (if_is _ _ y is) (told_on_keeps s request tried (nat_lt (tried + 1) s.config.servers) g)
 hear_done_keeps s request tried from _ y is g = absurd (cc)
 
+-- an answer keeps that units are granted first
 pub answer_keeps : (s : ClientModel) (p : Pending) (from : Server) (m : Message) (y : ClientResponse) → s.pending ≡ p
     → answer_call s p from m ≡ Some y → IsGrantedFirst s → Keeps y
 answer_keeps s waits_for.Nothing from m y waits is g = absurd (cc)
@@ -299,6 +304,7 @@ heard s from letter x is g =
     let P : Made → Type 0 = λ z. IsGrantedFirst z.state in
     subst P y.2 (post_keeps y.0.says _ (answer_keeps t s.pending from letter.message y.0 refl y.1 g))
 
+-- in every run of a client, units are granted before they are held or fetched
 pub grants_come_first : GrantsComeFirst
 grants_come_first = record {
   at_start = started;

@@ -28,6 +28,7 @@ first_letter s to sound fresh there =
     let P : ℕ → Type 0 = λ n. n < s.clock in
     All-get_or P s.sent to 0 (omega (arith, sound.servers, there)) fresh.sent
 
+-- a pending call awaits two answers at most
 pub awaited_few : (pending : Pending) → awaited pending ≤ 2
 awaited_few waits_for.Nothing = omega arith
 awaited_few _ = omega arith

@@ -55,6 +55,7 @@ tells_nothing (Some end) = tt
 
 module _ (old new : LinkModel) (call : Call) (running : has_finished old.said ≡ false) (whole : old.failed ≡ None)
     (seat : new.seat ≡ old.seat) where
+  -- a call that is answered is made as the relation of links asks
   pub made_answered : (answer : Answer) → IsAnswerTo old.said call answer → new.said ≡ plus old.said call (Some answer)
       → new.batch ≡ goes_on call answer old.batch → new.failed ≡ None → new.begun ≡ None → Made old new call (Ok answer)
   made_answered answer fits says batch fine none =
@@ -73,6 +74,7 @@ module _ (old new : LinkModel) (call : Call) (running : has_finished old.said �
         fresh = subst (λ (l : List Said). IsFresh l answer) (sym says) (fresh_of old.said call answer fits.kind fits.known);
       }
 
+  -- a call that fails is made as the relation of links asks
   pub made_failed : (trouble : Trouble) → new.said ≡ old.said → new.batch ≡ false → new.failed ≡ Some trouble → Pends new.begun call
       → Made old new call (Err trouble)
   made_failed trouble says batch failed begun = record {
@@ -89,6 +91,7 @@ module _ (old new : LinkModel) (call : Call) (running : has_finished old.said �
     fresh = tt;
   }
 
+-- on a link that failed before, each call is made with that fault again
 pub made_again : (old new : LinkModel) (call : Call) (trouble : Trouble) → has_finished old.said ≡ false → old.failed ≡ Some trouble
     → new.said ≡ old.said → new.seat ≡ old.seat → new.batch ≡ false → new.failed ≡ Some trouble → new.begun ≡ old.begun
     → Made old new call (Err trouble)
@@ -108,15 +111,18 @@ made_again old new call trouble running was says seat closed failed begun = reco
 
 -- Of a link whose batch is that of its transcript while it has not failed.
 
+-- the link says that a batch goes on exactly if it has not failed and its transcript has one open
 abbrev pub HasBatch : LinkModel → Type 0
 HasBatch m = m.batch ≡ (is_open m.said && is_none m.failed)
 
+-- on a link that failed, no batch goes on
 pub batch_fell : (m : LinkModel) (trouble : Trouble) → HasBatch m → m.failed ≡ Some trouble → m.batch ≡ false
 batch_fell m trouble is failed = is ∙ fell m.failed trouble (is_open m.said) failed
 
 batch_stands : (m : LinkModel) → HasBatch m → m.failed ≡ None → m.batch ≡ is_open m.said
 batch_stands m is whole = is ∙ stands m.failed (is_open m.said) whole
 
+-- a link's batch is that of its transcript after one more answer
 pub batch_moved : (old new : LinkModel) (call : Call) (answer : Answer) → HasBatch old → HasBatch new → old.failed ≡ None
     → new.failed ≡ None → new.said ≡ plus old.said call (Some answer) → new.batch ≡ goes_on call answer old.batch
 batch_moved old new call answer was is whole fine says =

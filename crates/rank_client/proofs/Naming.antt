@@ -1,4 +1,4 @@
--- The ids that stand beside a transcript, after one call more.
+-- The ids that are beside a transcript, after one call more.
 use Rattle.std.proofs.Common.{◌≡◌, ◌||◌, cond, Result, Ok, Err, Bool, true, false, List, [], ◌∷◌, ◌++◌, refl, sym, ap, ◌∙◌}
 use Rattle.std.specs.Prelude.{IsOk, OnOk}
 use Rattle.adlb_unit.specs.declared.names.UnitId.{UnitId}

@@ -25,6 +25,7 @@ pub not_some : {X : Type 0} (o : Option X) → is_some o ≡ false → o ≡ Non
 not_some None is = refl
 not_some (Some x) is = absurd (cc)
 
+-- an option that passes the test has a value
 pub some_of : {X : Type 0} (o : Option X) → is_some o ≡ true → (x : X) × (o ≡ Some x)
 some_of None is = absurd (cc)
 some_of (Some x) is = (x, refl)
@@ -41,9 +42,11 @@ and_false false = refl
 pub fell : (failed : Option Trouble) (trouble : Trouble) (on : Bool) → failed ≡ Some trouble → (on && is_none failed) ≡ false
 fell failed trouble on is = ap (λ o. on && is_none o) is ∙ and_false on
 
+-- on a link that has not failed, a batch goes on as its transcript says
 pub stands : (failed : Option Trouble) (on : Bool) → failed ≡ None → (on && is_none failed) ≡ on
 stands failed on is = ap (λ o. on && is_none o) is ∙ and_true on
 
+-- on a link that has not failed and has no batch, none is open
 pub not_open : (said : List Said) (failed : Option Trouble) → failed ≡ None → (is_open said && is_none failed) ≡ false
     → is_open said ≡ false
 not_open said failed none closed = sym (stands failed (is_open said) none) ∙ closed

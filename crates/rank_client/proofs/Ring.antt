@@ -32,6 +32,7 @@ way n f k below = by_order (cases_lt k (f % n))
         let there : f + (k - f % n) ≡ (f / n) * n + k = omega arith in
         (k - f % n, omega arith, ap (λ m. m % n) there ∙ mod-mul-add (f / n) n k below)
 
+-- a put that as many servers declined as there are was declined by all
 pub all_asked : (config : Config) (first : Server) (n : ℕ) (b : Bag) (r : RankState) → b.servers ≡ config.servers → config.servers ≤ n
     → r.declined ≡ ring_from config first n → all_declined b r ≡ true
 all_asked config first n b r servers enough is =

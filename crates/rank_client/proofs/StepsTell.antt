@@ -37,6 +37,7 @@ fails s trouble r = record {
   counted = r.counted;
 }
 
+-- each step of a client is about the call that is begun or pending
 pub steps_tell : StepsTell
 steps_tell = record {
   at_start = starts;

@@ -19,14 +19,17 @@ or_false false = refl
 any_more : {X : Type 0} (p : X → Bool) (xs : List X) (x : X) → list_any p (xs ++ x ∷ []) ≡ (list_any p xs || p x)
 any_more p xs x = list_any-append p xs (x ∷ []) ∙ ap (λ t. list_any p xs || t) (or_false (p x))
 
+-- a transcript with one more call is finished if it was, or if that call finishes it
 pub finished_more : (said : List Said) (s : Said) → has_finished (said ++ s ∷ []) ≡ (has_finished said || is_finish s.call)
 unfolding has_finished
 finished_more said s = any_more (λ (s : Said). is_finish s.call) said s
 
+-- one call more grants a unit if its answer does
 pub granted_more : (id : UnitId) (said : List Said) (s : Said) → is_granted id (said ++ s ∷ []) ≡ (is_granted id said || grants id s.answer)
 unfolding is_granted
 granted_more id said s = any_more (λ (s : Said). grants id s.answer) said s
 
+-- one call more fetches a unit if it is that fetch
 pub fetched_more : (id : UnitId) (said : List Said) (s : Said) → is_fetched id (said ++ s ∷ []) ≡ (is_fetched id said || fetches id s.call)
 unfolding is_fetched
 fetched_more id said s = any_more (λ (s : Said). fetches id s.call) said s
@@ -45,15 +48,18 @@ end_first answers.NoCurrent later last = refl
 end_first (answers.Body body) later last = refl
 end_first (answers.Info info) later last = refl
 
+-- one call more tells an end if its answer does and none was told before
 pub told_more : (said : List Said) (s : Said) → end_told (said ++ s ∷ []) ≡ first_end (end_told said) (end_of s.answer None)
 unfolding end_told
 told_more [] s = refl
 told_more (t ∷ said) s = ap (λ later. end_of t.answer later) (told_more said s) ∙ end_first t.answer (end_told said) (end_of s.answer None)
 
+-- an empty transcript tells no end
 pub none_told : end_told [] ≡ None
 unfolding end_told
 none_told = refl
 
+-- an empty transcript is not finished
 pub none_finished : has_finished [] ≡ false
 unfolding has_finished
 none_finished = refl
@@ -64,6 +70,7 @@ pub granted_last : (said : List Said) (call : Call) (note : UnitNote)
 unfolding granted
 granted_last said call note = (call, Contains-push said (record { call = call; answer = answers.Granted note }))
 
+-- a unit that was granted is granted after one call more
 pub granted_before : (said : List Said) (s : Said) (note : UnitNote) → granted note said → granted note (said ++ s ∷ [])
 unfolding granted
 granted_before said s note g = (g.0, Contains-append_left said (s ∷ []) (record { call = g.0; answer = answers.Granted note }) g.1)

@@ -34,6 +34,7 @@ use Rattle.rank_client.specs.Step.{Made}
 
 -- The rank in the bag while a call is pending: its letter goes to a server or waits there (None), or this answer comes back.
 
+-- the rank of the bag between calls
 abbrev pub running : ClientModel → RankState
 running s = record { status = does.Running; declined = []; next = s.next; batch = s.batch; end = s.end }
 
@@ -41,24 +42,29 @@ running s = record { status = does.Running; declined = []; next = s.next; batch 
 abbrev pub ring_from : Config → Server → ℕ → List Server
 ring_from config first n = map (behind config first) (range_with_len 0 n)
 
+-- the rank in a put that some servers refused
 abbrev pub putting : ClientModel → Unit → Server → ℕ → RankState
 putting s unit first tried = record (running s) { status = does.Putting unit; declined = ring_from s.config first tried }
 
+-- the rank in a put, with the answer that comes
 abbrev pub in_put : ClientModel → Unit → Server → ℕ → Option Message → RankState
 in_put s unit first tried None = putting s unit first tried
 in_put s unit first tried (Some (tells.Full to charge)) = putting s unit first (tried + 1)
 in_put s unit first tried (Some (tells.Ended to end)) = record (running s) { end = Some end }
 in_put s unit first tried (Some _) = running s
 
+-- the rank in a reserve, with the answer that comes
 abbrev pub in_reserve : ClientModel → ℕ → Option (List WorkType) → Option Message → RankState
 in_reserve s request types None = record (running s) { status = does.Asking request types }
 in_reserve s request types (Some (tells.Ended to end)) = record (running s) { end = Some end }
 in_reserve s request types (Some _) = running s
 
+-- the rank in a try that found nothing at some servers
 abbrev pub trying : ClientModel → ℕ → Option (List WorkType) → ℕ → RankState
 trying s request types tried =
     record (running s) { status = does.Trying request types; declined = ring_from s.config (home s.config s.me) tried }
 
+-- the rank in a try, with the answer that comes
 abbrev pub in_try : ClientModel → ℕ → Option (List WorkType) → ℕ → Option Message → RankState
 in_try s request types tried None = trying s request types tried
 in_try s request types tried (Some (tells.Nothing to)) = trying s request types (tried + 1)
@@ -70,18 +76,22 @@ abbrev pub own_fetched : ClientModel → ℕ → UnitNote → Option CommonRef �
 own_fetched s request note None = running s
 own_fetched s request note (Some common) = record (running s) { status = does.Fetching request note.id true }
 
+-- the rank in a fetch, with the answer that comes
 abbrev pub in_fetch : ClientModel → ℕ → UnitNote → Option Message → RankState
 in_fetch s request note None = record (running s) { status = does.Fetching request note.id false }
 in_fetch s request note (Some _) = own_fetched s request note note.common
 
+-- the rank in the fetch of a common part, with the answer that comes
 abbrev pub in_common : ClientModel → ℕ → UnitNote → Option Message → RankState
 in_common s request note None = record (running s) { status = does.Fetching request note.id true }
 in_common s request note (Some _) = running s
 
+-- the rank at the beginning of a batch that some servers refused
 abbrev pub keeping : ClientModel → ℕ → List ℕ → Server → ℕ → RankState
 keeping s request common first tried =
     record (running s) { status = does.Keeping request common; declined = ring_from s.config first tried }
 
+-- the rank at the beginning of a batch, with the answer that comes
 abbrev pub in_keep : ClientModel → ℕ → List ℕ → Server → ℕ → Option Message → RankState
 in_keep s request common first tried None = keeping s request common first tried
 in_keep s request common first tried (Some (tells.Full to charge)) = keeping s request common first (tried + 1)
@@ -89,14 +99,17 @@ in_keep s request common first tried (Some (tells.Ended to end)) = record (runni
 in_keep s request common first tried (Some _) =
     record (running s) { batch = Some (begun_batch s request common (asked s first tried)) }
 
+-- the rank at the end of a batch, with the answer that comes
 abbrev pub in_close : ClientModel → ℕ → Option Message → RankState
 in_close s request None = record (running s) { status = does.Closing request }
 in_close s request (Some _) = record (running s) { batch = None }
 
+-- the rank in a count, with the answer that comes
 abbrev pub in_count : ClientModel → ℕ → WorkType → Option Message → RankState
 in_count s request kind None = record (running s) { status = does.Counting request kind }
 in_count s request kind (Some _) = running s
 
+-- the rank in its pending call, with the answer that comes
 abbrev pub in_call : ClientModel → Pending → Option Message → RankState
 in_call s waits_for.Nothing coming = running s
 in_call s (waits_for.Put unit first tried) coming = in_put s unit first tried coming
@@ -109,12 +122,14 @@ in_call s (waits_for.Close request batch) coming = in_close s request coming
 in_call s (waits_for.Count request kind) coming = in_count s request kind coming
 in_call s (waits_for.SetDone request tried) coming = running s
 
+-- the rank of the bag, whether it has finished or not
 abbrev pub rank_of : ClientModel → Bool → Option Message → RankState
 rank_of s true coming = record (running s) { status = does.Finished }
 rank_of s false coming = in_call s s.pending coming
 
 -- What the ledger has and the transcript has not: the pending call, where its answer comes back.
 
+-- the answer to a put that comes
 abbrev pub put_coming : Message → Option Answer
 put_coming (tells.Accepted to) = Some answers.Fine
 put_coming (tells.Ended to end) = Some (answers.Ended end)
@@ -131,14 +146,17 @@ abbrev pub fetch_coming : Option CommonRef → Message → Option Answer
 fetch_coming None (tells.Bytes to body) = Some (answers.Body body)
 fetch_coming common m = None
 
+-- the answer to the fetch of a common part that comes
 abbrev pub common_coming : List ℕ → Message → Option Answer
 common_coming own (tells.Bytes to body) = Some (answers.Body (body ++ own))
 common_coming own _ = None
 
+-- the answer to the end of a batch that comes
 abbrev pub close_coming : Message → Option Answer
 close_coming (tells.Closed to) = Some answers.Fine
 close_coming _ = None
 
+-- the answer to a count that comes
 abbrev pub count_coming : Message → Option Answer
 count_coming (tells.Counted to info) = Some (answers.Info info)
 count_coming _ = None
@@ -159,12 +177,14 @@ said s (waits_for.Count request kind) (Some m) = plus s.transcript (calls_to.Cou
 
 -- The units that the rank holds: those of its handles, one that is granted by an answer which comes back, and one that is asked for.
 
+-- the note that comes, or that is being fetched
 abbrev pub note_coming : Pending → Option Message → List UnitNote
 note_coming (waits_for.Reserve request types) (Some (tells.Grant to note)) = note ∷ []
 note_coming (waits_for.Try request types tried) (Some (tells.Grant to note)) = note ∷ []
 note_coming (waits_for.Fetch request note) None = note ∷ []
 note_coming pending coming = []
 
+-- the notes that the rank has in the bag
 abbrev pub holds : ClientModel → Option Message → List UnitNote
 holds s coming = s.handles ++ note_coming s.pending coming
 
@@ -191,14 +211,17 @@ IsOwedIn b pending coming = Prim.Unit {0}
 
 -- Units of the batch that is going on: how many were accepted, also by an answer which comes back.
 
+-- the units accepted in a batch after an answer to a put
 abbrev pub put_leaves : ℕ → Message → ℕ
 put_leaves n (tells.Accepted to) = n + 1
 put_leaves n _ = n
 
+-- none is accepted yet after a batch was begun
 abbrev pub keep_leaves : ℕ → Message → ℕ
 keep_leaves n (tells.Accepted to) = 0
 keep_leaves n _ = n
 
+-- the units accepted in the batch, with the answer that comes
 abbrev pub accepted_by : ClientModel → Pending → Option Message → ℕ
 accepted_by s (waits_for.Put unit first tried) (Some m) = put_leaves s.accepted m
 accepted_by s (waits_for.Keep request common first tried) (Some m) = keep_leaves s.accepted m

@@ -17,41 +17,48 @@ abbrev pub answered : Result Answer Trouble → Option Answer
 answered (Ok answer) = Some answer
 answered (Err trouble) = None
 
+-- the trouble of a call that failed
 abbrev pub troubled : Result Answer Trouble → Option Trouble
 troubled (Ok answer) = None
 troubled (Err trouble) = Some trouble
 
--- what a put and the beginning of a batch can be answered, what a reserve, what a try, what a fetch, what the end of a batch, of the
--- problem and Finish, and what a count
+-- What a put and the beginning of a batch can be answered, a reserve, a try, a fetch and a count. Also the end of a batch and of the
+-- problem, and Finish.
 abbrev pub answers_put : Answer → Bool
 answers_put answers.Fine = true
 answers_put answers.Rejected = true
 answers_put (answers.Ended end) = true
 answers_put _ = false
 
+-- a reserve can be answered so
 abbrev pub answers_reserve : Answer → Bool
 answers_reserve (answers.Granted note) = true
 answers_reserve (answers.Ended end) = true
 answers_reserve _ = false
 
+-- a try can be answered so
 abbrev pub answers_try : Answer → Bool
 answers_try (answers.Granted note) = true
 answers_try answers.NoCurrent = true
 answers_try (answers.Ended end) = true
 answers_try _ = false
 
+-- a fetch can be answered so
 abbrev pub answers_fetch : Answer → Bool
 answers_fetch (answers.Body body) = true
 answers_fetch _ = false
 
+-- the end of a batch or of the problem, and Finish, can be answered so
 abbrev pub answers_done : Answer → Bool
 answers_done answers.Fine = true
 answers_done _ = false
 
+-- a count can be answered so
 abbrev pub answers_count : Answer → Bool
 answers_count (answers.Info info) = true
 answers_count _ = false
 
+-- the call can be answered so
 abbrev pub answers_call : Call → Answer → Bool
 answers_call (calls_to.Put kind prio target answer body) = answers_put
 answers_call (calls_to.Reserve types) = answers_reserve
@@ -71,9 +78,9 @@ heeds_end (calls_to.Try types) = true
 heeds_end (calls_to.BeginBatch common) = true
 heeds_end _ = false
 
--- The rank can make the call, in a run with these numbers of ranks and servers: a put with a body of at most 2^20 bytes for a rank of
--- the run; a reserve; a try; a fetch of a unit that was granted and not fetched; the end of the batch that is going on; a count; that
--- the problem is done; or, while no batch is, the beginning of one with a common part of at most 2^20 bytes, or Finish.
+-- The rank can make the call, in a run with these numbers of ranks and servers. A reserve, a try, a count, and that the problem is done it
+-- always can. A put has a body of at most 2^20 bytes and is for a rank of the run. A fetch is of a unit that was granted and not fetched. A
+-- batch that is going on can be ended. While no batch is, one can begin, with a common part of at most 2^20 bytes, and so can Finish.
 abbrev pub CanCall : ℕ → ℕ → List Said → Call → Type 0
 CanCall ranks servers said (calls_to.Put kind prio target answer body) = (length body ≤ body_limit) × Aims target ranks
 CanCall ranks servers said (calls_to.Reserve types) = Unit {0}

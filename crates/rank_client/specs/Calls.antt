@@ -19,13 +19,16 @@ plus said call (Some answer) = said ++ record { call = call; answer = answer } �
 
 -- What a transcript has.
 
+-- the call is Finish
 abbrev pub is_finish : Call → Bool
 is_finish calls_to.Finish = true
 is_finish _ = false
 
+-- the transcript has Finish
 unfoldable pub has_finished : List Said → Bool
 has_finished said = list_any (λ s. is_finish s.call) said
 
+-- the answer grants the unit
 abbrev pub grants : UnitId → Answer → Bool
 grants id (answers.Granted note) = same_unit note.id id
 grants id _ = false
@@ -34,6 +37,7 @@ grants id _ = false
 unfoldable pub is_granted : UnitId → List Said → Bool
 is_granted id said = list_any (λ s. grants id s.answer) said
 
+-- the call fetches the unit
 abbrev pub fetches : UnitId → Call → Bool
 fetches id (calls_to.Fetch fetched) = same_unit fetched id
 fetches id _ = false
@@ -51,6 +55,7 @@ abbrev pub end_of : Answer → Option End → Option End
 end_of (answers.Ended end) later = Some end
 end_of _ later = later
 
+-- the last end that the transcript was told
 unfoldable pub end_told : List Said → Option End
 end_told [] = None
 end_told (s ∷ said) = end_of s.answer (end_told said)

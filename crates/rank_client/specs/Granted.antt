@@ -26,6 +26,7 @@ pub record AreGranted (said : List Said) (notes : List UnitNote) (pending : Pend
   pub fetching : IsOfGranted said pending
   pub fetched : (id : UnitId) → is_fetched id said ≡ true → is_granted id said ≡ true
 
+-- each unit that the client holds, fetches or fetched was granted
 abbrev pub IsGrantedFirst : ClientModel → Type 0
 IsGrantedFirst s = AreGranted s.transcript s.handles s.pending
 

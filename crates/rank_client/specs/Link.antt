@@ -22,6 +22,7 @@ use Rattle.rank_client.specs.declared.faults.PutFault.TheVariants as put_faults
 use Rattle.rank_client.specs.declared.faults.TryFault.{TryFault}
 use Rattle.rank_client.specs.declared.faults.TryFault.TheVariants as try_faults
 
+-- what contracts see of a link
 pub record LinkModel : Type 0 where
   -- which rank of which run it serves
   pub seat : Seat
@@ -45,6 +46,7 @@ put_came (Err put_faults.Exhausted) = Ok (answers.Ended ends_by.Exhausted)
 put_came (Err put_faults.Memory) = Err troubles.Memory
 put_came (Err (put_faults.TooLong stamp)) = Err (troubles.TooLong stamp)
 
+-- the answer or trouble that a reserve came to
 abbrev pub reserve_came : Result UnitNote EndFault → Result Answer Trouble
 reserve_came (Ok note) = Ok (answers.Granted note)
 reserve_came (Err end_faults.NoMoreWork) = Ok (answers.Ended ends_by.NoMoreWork)
@@ -52,6 +54,7 @@ reserve_came (Err end_faults.Exhausted) = Ok (answers.Ended ends_by.Exhausted)
 reserve_came (Err end_faults.Memory) = Err troubles.Memory
 reserve_came (Err (end_faults.TooLong stamp)) = Err (troubles.TooLong stamp)
 
+-- the answer or trouble that a try came to
 abbrev pub try_came : Result UnitNote TryFault → Result Answer Trouble
 try_came (Ok note) = Ok (answers.Granted note)
 try_came (Err try_faults.NoCurrentWork) = Ok answers.NoCurrent
@@ -60,6 +63,7 @@ try_came (Err try_faults.Exhausted) = Ok (answers.Ended ends_by.Exhausted)
 try_came (Err try_faults.Memory) = Err troubles.Memory
 try_came (Err (try_faults.TooLong stamp)) = Err (troubles.TooLong stamp)
 
+-- the answer or trouble that a fetch came to
 abbrev pub fetch_came : Result (List ℕ) (UnitNote × Trouble) → Result Answer Trouble
 fetch_came (Ok body) = Ok (answers.Body body)
 fetch_came (Err e) = Err e.1
@@ -69,13 +73,14 @@ abbrev pub done_came : Result (Unit {0}) Trouble → Result Answer Trouble
 done_came (Ok done) = Ok answers.Fine
 done_came (Err trouble) = Err trouble
 
+-- the answer or trouble that a count came to
 abbrev pub count_came : Result Info Trouble → Result Answer Trouble
 count_came (Ok info) = Ok (answers.Info info)
 count_came (Err trouble) = Err trouble
 
--- What a call asks for besides that the rank runs: of a put a body of at most 2^20 bytes and a target that is a rank; of a fetch that the
--- unit was not fetched; of the beginning of a batch a common part of at most 2^20 bytes and no batch; of its end a batch; of Finish that
--- no batch goes on.
+-- What a call asks for besides that the rank runs. A put asks for a body of at most 2^20 bytes and a target that is a rank; a fetch, that
+-- the unit was not fetched. The beginning of a batch asks for a common part of at most 2^20 bytes and no batch, its end for a batch, and
+-- Finish, that no batch goes on.
 abbrev pub Suits : LinkModel → Call → Type 0
 Suits m (calls_to.Put kind prio target answer body) = (length body ≤ body_limit) × Aims target m.seat.ranks
 Suits m (calls_to.Fetch id) = is_fetched id m.said ≡ false

@@ -54,9 +54,8 @@ IsFitting said notes (waits_for.Common request note common own) =
     IsTaken said notes note × (note.common ≡ Some common) × (length own ≡ note.length)
 IsFitting said notes pending = Prim.Unit {0}
 
--- What a client knows of its transcript: whether Finish was called, the end that was told, the units that it holds and the one that it
--- fetches, and whether a batch is going on. No end was told where the pending call would be answered by it, and each call took a stamp
--- of its own.
+-- What a client knows of its transcript: whether Finish was called, the end that was told, the units that it holds and fetches, and whether
+-- a batch is going on. No end was told by which the pending call would be answered, and each call took a stamp of its own.
 pub record Remembers (s : ClientModel) : Type 0 where
   pub finishes : has_finished s.transcript ≡ s.finished
   pub told : end_told s.transcript ≡ s.end

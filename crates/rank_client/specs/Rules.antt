@@ -58,6 +58,7 @@ asks s entry to message pending = record {
 abbrev pub answered : ClientModel → Call → Answer → ClientModel
 answered s call answer = record s { pending = waits_for.Nothing; transcript = plus s.transcript call (Some answer) }
 
+-- the call ends with this answer
 abbrev pub ends : ClientModel → List Entry → Call → Answer → ClientResponse
 ends s entries call answer = record { state = answered s call answer; says = []; entries = entries; answer = Some answer }
 
@@ -78,6 +79,7 @@ first_server s (Soft rank) = home s.config rank
 abbrev pub call_of : Unit → Call
 call_of unit = calls_to.Put unit.kind unit.prio unit.target unit.answer unit.body
 
+-- the entry of a put
 abbrev pub entry_of : Unit → Entry
 entry_of unit = enters.Putting unit.id.rank unit.id.number unit.kind unit.prio unit.target unit.answer unit.body
 
@@ -100,12 +102,14 @@ unit_put s kind prio target answer body = record {
   body = body;
 }
 
+-- the unit of a put
 abbrev pub unit_of : ClientModel → Call → Option Unit
 unit_of s (calls_to.Put kind prio target answer body) = Some (unit_put s kind prio target answer body)
 unit_of s _ = None
 
 -- Reserve.
 
+-- a reserve: the home is asked, unless an end was told
 abbrev pub reserve : ClientModel → Option (List WorkType) → Option End → ClientResponse
 reserve s types (Some end) = over s (enters.Asked s.me s.next types) (calls_to.Reserve types) end
 reserve s types None =
@@ -117,6 +121,7 @@ reserve s types None =
 abbrev pub looks_at : ClientModel → ℕ → Server
 looks_at s tried = behind s.config (home s.config s.me) tried
 
+-- a try: the home is asked first, unless an end was told
 abbrev pub look : ClientModel → Option (List WorkType) → Option End → ClientResponse
 look s types (Some end) = over s (enters.Tried s.me s.next types) (calls_to.Try types) end
 look s types None = asks s (enters.Tried s.me s.next types) (looks_at s 0) (tells.Try s.next types) (waits_for.Try s.next types 0)
@@ -134,6 +139,7 @@ fetched s id note =
     (tells.Fetch s.next id)
     (waits_for.Fetch s.next note)
 
+-- a fetch of a unit that is held
 abbrev pub fetch : ClientModel → UnitId → Option UnitNote → Option ClientResponse
 fetch s id None = None
 fetch s id (Some note) = Some (fetched s id note)
@@ -154,6 +160,7 @@ abbrev pub closing : ClientModel → CommonRef → ClientResponse
 closing s batch =
     asks s (enters.Closing s.me s.next) batch.server (tells.CloseBatch s.next batch.batch s.accepted) (waits_for.Close s.next batch)
 
+-- the end of the batch that is going on
 abbrev pub close : ClientModel → Option CommonRef → Option ClientResponse
 close s None = None
 close s (Some batch) = Some (closing s batch)
@@ -173,6 +180,7 @@ set_done s = asks s (enters.Done s.me s.next) (looks_at s 0) (tells.Done s.next)
 
 -- Finish.
 
+-- Finish to a server
 abbrev pub farewell : ℕ → ClientSaying
 farewell server = record { to = record { 0 = server }; message = tells.Finish }
 
@@ -187,6 +195,7 @@ finish s = record {
 
 -- A call.
 
+-- no call is pending
 abbrev pub is_idle : Pending → Bool
 is_idle waits_for.Nothing = true
 is_idle _ = false
@@ -230,6 +239,7 @@ refused s unit first tried true = record {
 }
 refused s unit first tried false = ends s (enters.Rejected s.me unit.id.number ∷ []) (call_of unit) answers.Rejected
 
+-- an answer to a put
 abbrev pub hear_put : ClientModel → Unit → Server → ℕ → Server → Message → Option ClientResponse
 hear_put s unit first tried from (tells.Accepted to) =
     if is_for unit.id.number (asked s first tried) from to
@@ -253,6 +263,7 @@ expects_note s note =
     nat_lt note.server.0 s.config.servers && is_at_server s note.common && not (is_granted note.id s.transcript)
     && not (is_fetched note.id s.transcript)
 
+-- an answer to a reserve
 abbrev pub hear_reserve : ClientModel → ℕ → Option (List WorkType) → Server → Message → Option ClientResponse
 hear_reserve s request types from (tells.Grant to note) =
     if is_for request (home s.config s.me) from to && expects_note s note
@@ -274,6 +285,7 @@ looked s request types tried true = record {
 }
 looked s request types tried false = ends s (enters.NoCurrent s.me request ∷ []) (calls_to.Try types) answers.NoCurrent
 
+-- an answer to a try
 abbrev pub hear_look : ClientModel → ℕ → Option (List WorkType) → ℕ → Server → Message → Option ClientResponse
 hear_look s request types tried from (tells.Grant to note) =
     if is_for request (looks_at s tried) from to && expects_note s note
@@ -305,7 +317,7 @@ hear_fetch s request note from (tells.Bytes to body) =
     if is_for request note.server from to && (length body == note.length) then Some (own_came s request note body note.common) else None
 hear_fetch s request note from _ = None
 
--- and as many common bytes, which stand before the unit's own
+-- and as many common bytes, which come before the unit's own
 abbrev pub hear_common : ClientModel → ℕ → UnitNote → CommonRef → List ℕ → Server → Message → Option ClientResponse
 hear_common s request note common own from (tells.Bytes to body) =
     if is_for request common.server from to && (length body == common.length)
@@ -327,6 +339,7 @@ part_refused s request common first tried true = record {
 part_refused s request common first tried false =
     ends s (enters.Rejected s.me request ∷ []) (calls_to.BeginBatch common) answers.Rejected
 
+-- an answer to the beginning of a batch
 abbrev pub hear_keep : ClientModel → ℕ → List ℕ → Server → ℕ → Server → Message → Option ClientResponse
 hear_keep s request common first tried from (tells.Accepted to) =
     if is_for request (asked s first tried) from to
@@ -362,6 +375,7 @@ told_done s request tried true = record {
 }
 told_done s request tried false = ends s [] calls_to.SetDone answers.Fine
 
+-- an answer to the news that the problem is done
 abbrev pub hear_done : ClientModel → ℕ → ℕ → Server → Message → Option ClientResponse
 hear_done s request tried from (tells.DoneHeard to) =
     if is_for request (looks_at s tried) from to then Some (told_done s request tried (nat_lt (tried + 1) s.config.servers)) else None

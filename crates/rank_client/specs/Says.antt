@@ -26,6 +26,7 @@ pub record HasAnswer (said : List Said) (call : Call) (answer : Answer) (s : Cli
   pub idle : s.pending ≡ waits_for.Nothing
   pub fits : IsAnswerTo said call answer
 
+-- the call has this answer, or waits for one
 abbrev pub Says : List Said → Call → Option Answer → ClientModel → Type 0
 Says said call None s = Waits said call s
 Says said call (Some answer) s = HasAnswer said call answer s

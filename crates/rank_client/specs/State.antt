@@ -10,6 +10,7 @@ use Rattle.bag_ledger.specs.declared.entries.Said.{Said}
 use Rattle.rank_client.specs.declared.pendings.Pending.{Pending}
 use Rattle.rank_client.specs.declared.pendings.Pending.TheVariants as waits_for
 
+-- what contracts see of a client
 pub record ClientModel : Type 0 where
   pub config : Config
   pub me : Rank
@@ -36,6 +37,7 @@ pub record ClientModel : Type 0 where
   -- what made the client fail, if anything did
   pub trouble : Option Trouble
 
+-- a client before its first call
 abbrev pub start : Config → Rank → ClientModel
 start config me = record {
   config = config;

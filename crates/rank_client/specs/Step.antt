@@ -31,9 +31,11 @@ pub record Made : Type 0 where
 abbrev pub call_stamp : ClientModel → ℕ
 call_stamp s = s.clock + 1
 
+-- the stamp of an event that hears the letter
 abbrev pub letter_stamp : ClientModel → Letter → ℕ
 letter_stamp s letter = stamp_after s.clock letter
 
+-- the client at this stamp
 abbrev pub ticked : ClientModel → ℕ → ClientModel
 ticked s stamp = record s { clock = stamp }
 
@@ -41,16 +43,20 @@ ticked s stamp = record s { clock = stamp }
 abbrev pub sent_to : ClientModel → Server → ℕ
 sent_to s to = slice_index_or s.sent to.0 0
 
+-- the client with one letter more sent to the server
 abbrev pub counted : ClientModel → Server → ClientModel
 counted s to = record s { sent = slice_set s.sent to.0 (sent_to s to + 1) }
 
+-- the letter as it is sent
 abbrev pub posted : ClientModel → ClientSaying → Sending
 posted s x = sending s.clock (sent_to s x.to) (by.Server x.to) x.message
 
+-- letters sent one after the other
 abbrev pub post : Made → List ClientSaying → Made
 post x [] = x
 post x (y ∷ says) = post (record x { state = counted x.state y.to; sends = x.sends ++ posted x.state y ∷ [] }) says
 
+-- what a rule makes, with its letters sent
 abbrev pub made : ClientResponse → Made
 made x = post (record { state = x.state; sends = []; entries = x.entries; answer = x.answer }) x.says
 
@@ -88,5 +94,6 @@ first_trouble None later = later
 abbrev pub call_trouble : ClientModel → Option Trouble
 call_trouble s = first_trouble s.trouble (late (call_stamp s))
 
+-- why the letter makes the client fail, if it does
 abbrev pub letter_trouble : ClientModel → Letter → Option Trouble
 letter_trouble s letter = first_trouble s.trouble (first_trouble (told_trouble letter.message) (late (letter_stamp s letter)))

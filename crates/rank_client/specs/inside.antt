@@ -34,6 +34,7 @@ use Rattle.rank_client.specs.Rules.{ClientResponse, answer_call, answered, asks,
 use Rattle.rank_client.specs.State.{ClientModel}
 use Rattle.rank_client.specs.Step.{Made}
 
+-- the client of its fields
 abbrev pub state_of : Inside → ClientModel
 state_of i = record {
   config = i.config;
@@ -130,19 +131,23 @@ batch_after batch (changes.Begun part) = Some part
 batch_after batch changes.Closed = None
 batch_after batch _ = batch
 
+-- how many puts are accepted after a change
 abbrev pub accepted_after : ℕ → Change → ℕ
 accepted_after accepted changes.Accepted = accepted + 1
 accepted_after accepted (changes.Begun part) = 0
 accepted_after accepted _ = accepted
 
+-- the end that was told after a change
 abbrev pub end_after : Option End → Change → Option End
 end_after end (changes.Ended told) = Some told
 end_after end _ = end
 
+-- the units that are held after a change
 abbrev pub handles_after : List UnitNote → Change → List UnitNote
 handles_after handles (changes.Granted note) = handles ++ note ∷ []
 handles_after handles _ = handles
 
+-- the client after a change
 abbrev pub changed : ClientModel → Change → ClientModel
 changed s change = record s {
   batch = batch_after s.batch change;
@@ -170,6 +175,7 @@ IsFit config (changes.Granted note) = IsPlaced config note
 IsFit config (changes.Begun part) = part.server.0 < config.servers
 IsFit config _ = Prim.Unit {0}
 
+-- what comes of a letter is within the run, and there is room for it
 abbrev pub Fits : Config → Room → Outcome → Type 0
 Fits config room (comes_to.Ends change entries said) = IsFit config change
 Fits config room (comes_to.Waits pending to message sends) =
@@ -209,6 +215,7 @@ message_of (goes_to.Keep request common) = tells.KeepCommon request common
 message_of (goes_to.Try request types) = tells.Try request types
 message_of (goes_to.SetDone request) = tells.Done request
 
+-- the bytes are those that the errand offers
 abbrev pub IsOffer : Errand → List ℕ → Type 0
 IsOffer (goes_to.Put unit) body = body ≡ unit.body
 IsOffer (goes_to.Keep request common) body = body ≡ common
@@ -238,6 +245,7 @@ abbrev pub response_to : ClientModel → Entry → First → ClientResponse
 response_to s entry (begins_by.Asks to message pending room) = asks s entry to message pending
 response_to s entry (begins_by.Over call end) = over s entry call end
 
+-- the answer to a call that is opened
 abbrev pub opened : ClientModel → Opening → ClientResponse
 opened s opening = response_to (record s { puts = opening.puts; handles = unspent opening.spent s.handles }) opening.entry opening.first
 
@@ -246,5 +254,6 @@ abbrev pub HasFirst : Config → First → Type 0
 HasFirst config (begins_by.Asks to message pending room) = (to.0 < config.servers) × HasRoom config room pending
 HasFirst config (begins_by.Over call end) = Prim.Unit {0}
 
+-- the call's puts and its first letter are within their bounds
 abbrev pub Opens : ClientModel → Opening → Type 0
 Opens s opening = (opening.puts ≤ s.puts + 1) × HasFirst s.config opening.first

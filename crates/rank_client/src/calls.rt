@@ -76,10 +76,11 @@ fn farewells(sent: &mut Vec<u64>, stamp: u64, servers: u32, sends: Vec<Sending>)
 }
 
 impl ClientCore {
-    /// The rank is ready for this call: no call is pending, it has not finished, and the call's own conditions hold. The body of a
-    /// put has at most `2^20` bytes, and a rank that its target names is one of the run; a unit that is fetched is held; no batch is
-    /// going on when one begins, whose common part has at most `2^20` bytes, nor at Finish; and one is when it ends. A reserve, a
-    /// try, a count and that the problem is done have no such condition.
+    /// The rank is ready for this call: no call is pending, it has not finished, and the call's own conditions hold.
+    /// The body of a put has at most `2^20` bytes, and a rank that its target names is one of the run. A unit that is
+    /// fetched is held. No batch is going on when one begins, whose common part has at most `2^20` bytes, nor at
+    /// Finish. One is going on when it ends. A reserve, a try, a count and that the problem is done have no such
+    /// condition.
     pub fn ready(&self, call: &Call) -> bool
         ensures { IsTrue result ↔ IsSome (begin self.now call.now) }
     {
@@ -239,7 +240,7 @@ impl ClientCore {
         ensures begun { IfOk result (λ x. begin self.old call ≡ Some (gives self.new x)) }
         ensures stamp { IfOk result (λ x. x.stamp ≡ self.new.clock) }
 
-        // When it fails, and what stands then.
+        // When it fails, and what is left then.
         ensures whole { OnOk result (call_trouble self.old ≡ None) }
         ensures troubled { (t : Trouble) → call_trouble self.old ≡ Some t → result ≡ Err t }
         ensures memory { call_trouble self.old ≡ None → IfErr result (λ t. (t ≡ Trouble.Memory) × (is_finish call ≡ false)) }

@@ -133,7 +133,7 @@ fn own_bytes(place: &Place, request: u64, note: UnitNote, room: &mut Room, own: 
 }
 
 // What a letter makes of the fetch whose own bytes have come: the server of the common part gives its bytes, which
-// stand before the own ones.
+// come before the own ones.
 pub(crate) fn hear_common(
     place: &Place,
     request: u64,

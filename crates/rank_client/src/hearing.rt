@@ -33,7 +33,7 @@ impl ClientCore {
         ensures heard { IfOk result (λ x. hear self.old from letter ≡ Some (gives self.new x)) }
         ensures stamp { IfOk result (λ x. x.stamp ≡ self.new.clock) }
 
-        // When it fails, and what stands then.
+        // When it fails, and what is left then.
         ensures whole { OnOk result (letter_trouble self.old letter ≡ None) }
         ensures troubled { IfErr result (λ t. letter_trouble self.old letter ≡ Some t) }
         ensures failed { IfErr result (λ t. self.new ≡ record self.old { trouble = Some t }) }

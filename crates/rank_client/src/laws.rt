@@ -12,11 +12,11 @@ ghost use Rattle.rank_client.specs.Says.{StepsTell};
 ghost use Rattle.rank_client.specs.State.{ClientModel};
 ghost use Rattle.rank_client.specs.Step.{Made, begin, hear};
 
-/// From a bag for whose rank the client stands, and in which no part is due, the entries of a step are steps of the bag, and the
-/// client stands for its rank afterwards. Its transcript is then what the ledger says of this rank; while the servers are told that
-/// the problem is done, the ledger has that call already. So it is whatever is asked where exhaustion is found (`found`). And exactly
-/// the letters that are expected have a step (`ExpectedAreHeard`), and a rank holds, fetches and fetched no unit that was not granted
-/// (`GrantsComeFirst`).
+/// Let the client agree with its rank of a bag in which no part is due. Then the entries of a step are steps of the
+/// bag, and the client agrees with its rank afterwards. Its transcript is then what the ledger says of this rank;
+/// while the servers are told that the problem is done, the ledger has that call already. So it is whatever is asked
+/// where exhaustion is found (`found`). And exactly the letters that are expected have a step (`ExpectedAreHeard`),
+/// and a rank holds, fetches and fetched no unit that was not granted (`GrantsComeFirst`).
 pub fn client_laws()
     ensures begun { (found : Bag → Bool) (s : ClientModel) (call : Call) (x : Made) (b : Bag) →
         begin s call ≡ Some x → ClientAgrees s None b → IsFalse (has_due b) → Follows found s None b x }
@@ -26,9 +26,9 @@ pub fn client_laws()
     ensures grants_come_first { GrantsComeFirst }
 {}
 
-/// What each step of a rank makes of its transcript, with any number of servers: it is about the call that is begun or pending, and
-/// adds it with its answer once it has one, which is what such a call can be answered. And the rank is ready for each call that it
-/// can make (`StepsTell`).
+/// What each step of a rank makes of its transcript, with any number of servers. It is about the call that is begun
+/// or pending. Once the call has an answer, it is added with it, and the answer is one that such a call can have. And
+/// the rank is ready for each call that it can make (`StepsTell`).
 pub fn says_laws()
     ensures { StepsTell }
 {}

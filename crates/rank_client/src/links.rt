@@ -43,8 +43,9 @@ pub trait Adlb {
         requires can { Can (link self.old) (Call.Try types.now) }
         ensures made { Made (link self.old) (link self.new) (Call.Try types.now) (try_came result) };
 
-    /// Gives the bytes of a unit that was granted and not fetched before: those of the common part, if there is one, and then
-    /// its own, shared with whoever else has them. A refusal hands the handle back, which can still be spent.
+    /// Gives the bytes of a unit that was granted and not fetched before. They are those of the common part, if there
+    /// is one, and then its own, shared with whoever else has them. A refusal hands the handle back, which can still
+    /// be spent.
     fn get_reserved(&mut self, handle: Handle) -> Result<Body, (Handle, Trouble)>
         requires can { Can (link self.old) (Call.Fetch handle.id) }
         requires granted { granted handle (link self.old).said }

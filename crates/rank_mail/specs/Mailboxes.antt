@@ -34,6 +34,7 @@ pub record ClosedModel : Type 0 where
   pub got : List (List Posted)
   pub sent : List (List (List Letter))
 
+-- the places of inboxes
 abbrev pub places_of : List InboxModel → List Place
 places_of inboxes = map (λ b. b.place) inboxes
 
@@ -57,5 +58,6 @@ after_sending post to letter = record post { sent = slice_set post.sent to (sent
 abbrev pub sent_on : ClosedModel → ℕ → ℕ → List Letter
 sent_on all from to = slice_index_or (slice_index_or all.sent to []) from []
 
+-- what an actor got from another
 abbrev pub got_on : ClosedModel → ℕ → ℕ → List Letter
 got_on all from to = letters_of from (slice_index_or all.got to [])

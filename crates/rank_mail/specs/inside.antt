@@ -22,9 +22,11 @@ receiver = record { sends = false; from = 0; sent = []; gets = true; got = []; s
 abbrev pub spent : Known
 spent = record { sends = false; from = 0; sent = []; gets = false; got = []; senders = 0; closed = [] }
 
+-- what is known after a letter was sent
 abbrev pub after_send : Known → Letter → Known
 after_send v letter = record v { sent = v.sent ++ letter ∷ [] }
 
+-- what is known after a letter was received
 abbrev pub after_receive : Known → Posted → Known
 after_receive v x = record v { got = v.got ++ x ∷ [] }
 
@@ -50,6 +52,7 @@ FitsReceiver place senders closed got all i v =
     → (i ≡ place) × (v.got ≡ got) × (v.senders ≡ senders) × (length v.closed ≡ closed)
     × ((k : ℕ) → k < closed → slice_index_or v.closed k [] ≡ letters_of k all)
 
+-- a pass agrees with its mailbox, whichever side it is of
 abbrev pub Fits : ℕ → (ℕ → ℕ) → ℕ → ℕ → List Posted → List Posted → ℕ → Known → Type 0
 Fits place seat senders closed got all i v = FitsSender seat senders closed all i v × FitsReceiver place senders closed got all i v
 
@@ -67,6 +70,7 @@ Compares v items = (k : ℕ) → k < length v.closed → slice_index_or v.closed
 
 -- One sender of one mailbox.
 
+-- what is seen of a line
 pub record LineModel : Type 0 where
   pub place : Place
   pub from : ℕ
@@ -76,6 +80,7 @@ pub record LineModel : Type 0 where
 abbrev pub line_of : InboxModel → LineModel
 line_of b = record { place = b.place; from = b.senders; sent = [] }
 
+-- the inbox with one sender more
 abbrev pub with_line : InboxModel → InboxModel
 with_line b = record b { senders = b.senders + 1 }
 

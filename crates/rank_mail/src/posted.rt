@@ -10,8 +10,9 @@ pub struct Posted {
     pub letter: Letter,
 }
 
-/// What a pass knows of its mailbox: a sender's its number and what it sent; the receiver's what it got, how many senders
-/// there are, and what those that are closed had sent. It exists in proofs alone; no value of it is made.
+/// What a pass knows of its mailbox. A sender's knows its number and what it sent. The receiver's knows what it got,
+/// how many senders there are, and what those that are closed had sent. It exists in proofs alone; no value of it is
+/// made.
 pub struct Known {
     pub sends: bool,
     pub from: u32,

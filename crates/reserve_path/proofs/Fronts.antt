@@ -1,4 +1,4 @@
--- Entries of ranks, of which those that wait stand in front.
+-- Entries of ranks, of which those that wait come first.
 use Rattle.std.proofs.Common.{◌≡◌, ◌≢◌, ◌<◌, ◌≤◌, ◌+◌, ℕ, zero, suc, Bool, true, false, cond, not, List, [], ◌∷◌, ◌++◌, length, map, filter}
 use Rattle.std.proofs.Common.{take, drop, set, get_or, Option, None, Some, All, is_some, refl, sym, ap, ◌∙◌, subst, arith, ◌⊎◌, inl, inr}
 use Rattle.std.proofs.Common.{add-one, append_assoc, length-append}
@@ -80,6 +80,7 @@ module _ (test : Waiting → Bool) (xs : List Waiting) (n : ℕ) (e : Waiting) (
   passes_not k d within other =
       ap not (false_from_ne_true (test (get_or xs k d)) (λ passes. other (at.only k d within passes)))
 
+  -- removing the one that passes is filtering it out
   pub taken_out : remove xs n ≡ filter (λ x. not (test x)) xs
   taken_out =
       let keep : Waiting → Bool = λ x. not (test x) in
@@ -113,23 +114,27 @@ none_out test xs all = sym (all_pass (λ x. not (test x)) xs (λ k d within. ap 
 
 -- Entries.
 
+-- the entries of an index, by rank
 abbrev pub Entries : Type 0
 Entries = List (ℕ × Waiting)
 
--- an entry stands under its rank
+-- an entry is under its rank
 abbrev pub IsKeyed : ℕ × Waiting → Type 0
 IsKeyed e = e.0 ≡ e.1.wish.rank.0
 
+-- writing one value writes it among the values
 pub values_written : (es : Entries) (i : ℕ) (w : Waiting) → values_of (set_value_at es i w) ≡ set (values_of es) i w
 values_written [] i w = refl
 values_written (e ∷ es) zero w = refl
 values_written (e ∷ es) (suc i) w = ap (λ l. e.1 ∷ l) (values_written es i w)
 
+-- writing one value leaves the keys
 pub keys_written : (es : Entries) (i : ℕ) (w : Waiting) → keys_of (set_value_at es i w) ≡ keys_of es
 keys_written [] i w = refl
 keys_written (e ∷ es) zero w = refl
 keys_written (e ∷ es) (suc i) w = ap (λ l. e.0 ∷ l) (keys_written es i w)
 
+-- writing one value leaves the size
 pub size_written : (es : Entries) (i : ℕ) (w : Waiting) → length (set_value_at es i w) ≡ length es
 size_written [] i w = refl
 size_written (e ∷ es) zero w = refl
@@ -140,6 +145,7 @@ written_at [] i w within = absurd (omega (arith, within))
 written_at (e ∷ es) zero w within = (e.0, refl)
 written_at (e ∷ es) (suc i) w within = written_at es i w (omega (arith, within))
 
+-- entries keep their keys if the value is of the same rank
 pub keyed_written : (es : Entries) (i : ℕ) (w : Waiting) → All IsKeyed es
     → ((d : Waiting) → i < length es → (get_or (values_of es) i d).wish.rank.0 ≡ w.wish.rank.0) → All IsKeyed (set_value_at es i w)
 keyed_written [] i w all same = all
@@ -205,6 +211,7 @@ has_same m n same q =
 
 -- Entries that are made one after the other.
 
+-- entries keep their keys with one inserted at its rank
 pub keyed_inserted : (es : Entries) (k : ℕ) (w : Waiting) → All IsKeyed es → k ≡ w.wish.rank.0
     → All IsKeyed (insert_entry nat_eq es k w)
 keyed_inserted [] k w all is = All-cons IsKeyed (k, w) [] is (All-nil IsKeyed)
@@ -215,9 +222,11 @@ keyed_inserted (e ∷ es) k w all is = by_test (keyed_inserted es k w (All-tail 
         rw same (All-cons IsKeyed (e.0, w) es (sym (eqb-true k e.0 same) ∙ is) (All-tail IsKeyed e es all))
     by_test rest false other = rw other (All-cons IsKeyed e (insert_entry nat_eq es k w) (All-head IsKeyed e es all) rest)
 
+-- a number is not below itself
 pub not_below : (n : ℕ) → nat_lt n n ≡ false
 not_below n = false_from_ne_true (nat_lt n n) (λ t. omega (arith, ltb-true n n t))
 
+-- with the entry of the next rank, each rank below it has one
 pub there_more : {X : Type 0} (q n : ℕ) (before after : Option X) (x : X) → after ≡ cond (nat_eq n q) (Some x) before
     → is_some before ≡ nat_lt q n → is_some after ≡ nat_lt q (n + 1)
 there_more q n before after x is was = by_place (cases_eq n q)
@@ -244,19 +253,23 @@ there_more q n before after x is was = by_place (cases_eq n q)
 
 module _ (es : Entries) (n i : ℕ) (rank : Rank) (keyed : All IsKeyed es) (room : n ≤ length es)
     (found : position (nat_eq rank.0) (keys_of es) ≡ Some i) where
+  -- a place that is found is within the entries
   pub place_within : i < length es
   place_within = omega (arith, (position-Some (nat_eq rank.0) (keys_of es) i 0 found).0, length-keys_of es)
 
+  -- the entry at the place of a rank is the rank's
   pub place_rank : (d : Waiting) → (get_or (values_of es) i d).wish.rank.0 ≡ rank.0
   place_rank d =
       sym (keyed_at es i 0 d keyed place_within)
       ∙ sym (eqb-true rank.0 (get_or (keys_of es) i 0) (position-Some (nat_eq rank.0) (keys_of es) i 0 found).1)
 
+  -- a rank that does not wait in front is found after the front
   pub place_behind : Waiting → list_any (is_of rank) (take n (values_of es)) ≡ false → n ≤ i
   place_behind d none = is_behind rank (values_of es) i n d (omega (arith, room, length-values_of es)) (place_rank d) none
 
 -- What is seen of a front.
 
+-- fronts of equal parts are equal
 pub front_is : (f g : FrontModel) → f.ranks ≡ g.ranks → f.waiting ≡ g.waiting → f ≡ g
 front_is f g ranks waiting = λ j. record { ranks = ranks j; waiting = waiting j }
 

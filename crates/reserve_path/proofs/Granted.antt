@@ -18,6 +18,7 @@ pub record IsUnit (id : UnitId) (units : List Placed) (p : Placed) : Type 0 wher
   pub has_id : id_of p ≡ id
   pub there : Contains units p
 
+-- a queue with a free unit of the id has the unit
 pub unit_there : (id : UnitId) (units : List Placed) → HasFree id units → (p : Placed) × IsUnit id units p
 unit_there id units has = by_found (unit_with id units) refl
   where
@@ -38,6 +39,7 @@ best_there q rank types id best free =
     let p = unit_there id q.units free in
     (p.0, rw best p.1.found, p.1)
 
+-- if there is no best id, there is no best unit
 pub none_best : (q : Queue) (rank : Rank) (types : Option (List WorkType)) → best_of rank types q.units ≡ None
     → best_for q rank types ≡ None
 none_best q rank types none = rw none refl

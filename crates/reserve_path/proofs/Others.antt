@@ -36,6 +36,7 @@ others_from config me from (suc n) there some less =
     All-cons (IsOther config me) (behind config me from) (map (behind config me) (range_with_len (from + 1) n))
     (other_behind config me from there some (omega arith)) (others_from config me (from + 1) n there (omega arith) (omega arith))
 
+-- the servers that are asked are within the run, and each is another one
 pub all_others : (config : Config) (me : Server) → me.0 < config.servers → All (IsOther config me) (others config me)
 all_others config me there = others_from config me 1 (config.servers - 1) there (omega arith) (omega arith)
 
@@ -46,5 +47,6 @@ none_others config me none =
     let count = length-map-range_with_len (behind config me) 1 (config.servers - 1) in
     omega (arith, long, count, config.servers_within.0)
 
+-- a server that is alone has no others
 pub alone : (config : Config) (me : Server) → config.servers ≡ 1 → others config me ≡ []
 alone config me one = ap (λ n. map (behind config me) (range_with_len 1 (n - 1))) one

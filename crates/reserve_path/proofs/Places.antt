@@ -27,9 +27,11 @@ nobody rank = record { wish = record { rank = rank; request = 0; types = None };
 abbrev pub Tells : (Waiting → Bool) → Rank → Type 0
 Tells test rank = (e : Waiting) → test e ≡ true → e.wish.rank.0 ≡ rank.0
 
+-- the test of a rank is about that rank
 pub of_tells : (rank : Rank) → Tells (is_of rank) rank
 of_tells rank e is = eqb-true e.wish.rank.0 rank.0 is
 
+-- the test of a rank and request is about that rank
 pub since_tells : (rank : Rank) (request : ℕ) → Tells (is_since rank request) rank
 since_tells rank request e is = of_tells rank e (and_parts _ _ is).0
 
@@ -48,6 +50,7 @@ no_place : (a m : ℕ) → cond {A = Option ℕ} (ltb a m) (Some a) None ≡ Non
 no_place a m is = grind (arith, nat_tests)
 
 module _ (test : Waiting → Bool) (rank : Rank) (tells : Tells test rank) (xs : List Waiting) (once : AllPairs AreApart xs) where
+  -- one place at most has an entry that passes
   pub at_only : (n k : ℕ) (d : Waiting) → n < length xs → k < length xs → test (get_or xs n d) ≡ true → test (get_or xs k d) ≡ true → k ≡ n
   at_only n k d within inside here there = by_order (cases_lt k n) (cases_lt n k)
     where
@@ -59,6 +62,7 @@ module _ (test : Waiting → Bool) (rank : Rank) (tells : Tells test rank) (xs :
       by_order (inr more) (inl less) = absurd (once n k d less inside (sym same))
       by_order (inr more) (inr fewer) = omega arith
 
+  -- the place that is found has the entry that passes
   pub at_place : (n : ℕ) (d : Waiting) → position test xs ≡ Some n → IsAt test xs n (get_or xs n d)
   at_place n d is =
       let first = position-Some test xs n d is in
@@ -72,7 +76,7 @@ module _ (test : Waiting → Bool) (rank : Rank) (tells : Tells test rank) (xs :
         here = here;
       }
 
--- what stands at the first place is what is found first
+-- what is at the first place is what is found first
 pub found_at : (test : Waiting → Bool) (xs : List Waiting) (n : ℕ) (d : Waiting) → position test xs ≡ Some n
     → find test xs ≡ Some (get_or xs n d)
 found_at test xs n d is =
@@ -105,6 +109,7 @@ none_at test xs is =
     let past = no_place (position_or_len test xs) (length xs) is in
     find_none test xs (find_at test xs ∙ slice_get_past xs (position_or_len test xs) past)
 
+-- some entry that passes two tests has a place by the first
 pub some_at : (p q : Waiting → Bool) (xs : List Waiting) → list_any (λ e. p e && q e) xs ≡ true → position p xs ≡ None → ⊥
 some_at p q xs has is =
     let at = Any-from_list_any (λ e. p e && q e) xs has in
@@ -120,6 +125,7 @@ turned_not test f e fails = rw fails refl
 turned_yes : (test : Waiting → Bool) (f : Waiting → Waiting) (e : Waiting) → test e ≡ true → turned test f e ≡ f e
 turned_yes test f e passes = rw passes refl
 
+-- a change of those that pass a test leaves a list in which nobody does
 pub none_turned : (test : Waiting → Bool) (f : Waiting → Waiting) (xs : List Waiting) → All (λ e. test e ≡ false) xs
     → map (turned test f) xs ≡ xs
 none_turned test f [] all = refl

@@ -30,9 +30,11 @@ use Rattle.reserve_path.proofs.Places.{at_only, of_tells}
 
 -- None has it: of each it is not so.
 
+-- if no element has a property, each lacks it
 pub each_not : {X : Type 0} (P : X → Type 0) (xs : List X) → (Any P xs → ⊥) → All (λ x. P x → ⊥) xs
 each_not P xs none k d within has = none (k, get_or xs k d, within, get_or_default xs k (get_or xs k d) d within, has)
 
+-- if each element lacks a property, no element has it
 pub not_any : {X : Type 0} (P : X → Type 0) (xs : List X) → All (λ x. P x → ⊥) xs → Any P xs → ⊥
 not_any P xs all has = all has.0 has.1 has.2 (subst P (sym has.3) has.4)
 
@@ -47,6 +49,7 @@ best_is q rank types id best =
     let there = best_there q rank types id best (free_from_best rank types q.units id ((best_walk rank types q.units id).0 best)) in
     (there.0, there.1, there.2.has_id)
 
+-- the unit that is granted is the best that is offered
 pub granted_is_best : (q : Queue) (rank : Rank) (types : Option (List WorkType)) (p : Placed) → best_for q rank types ≡ Some p
     → IsBest rank types q.units (id_of p)
 granted_is_best q rank types p is = by_best (best_of rank types q.units) refl
@@ -59,6 +62,7 @@ granted_is_best q rank types p is = by_best (best_of rank types q.units) refl
         let same : there.0 ≡ p = cc (found) in
         subst (IsBest rank types q.units) (sym there.2 ∙ ap id_of same) ((best_walk rank types q.units id).0 best)
 
+-- if there is no best unit for a rank, no unit is offered to it
 pub none_granted_is : (q : Queue) (rank : Rank) (types : Option (List WorkType)) → best_for q rank types ≡ None
     → Any (IsOffered rank types) q.units → ⊥
 none_granted_is q rank types is = by_best (best_of rank types q.units) refl
@@ -67,6 +71,7 @@ none_granted_is q rank types is = by_best (best_of rank types q.units) refl
     by_best None best = (no_best rank types q.units).0 best
     by_best (Some id) best = let there = best_is q rank types id best in let none = sym there.1 ∙ is in absurd (cc (none))
 
+-- if no unit is offered, none is granted
 pub none_is_granted : (q : Queue) (rank : Rank) (types : Option (List WorkType)) → (Any (IsOffered rank types) q.units → ⊥)
     → best_for q rank types ≡ None
 none_is_granted q rank types none = none_best q rank types ((no_best rank types q.units).1 none)
@@ -92,12 +97,14 @@ module _ (w : Wish) (id : UnitId) (rank : Rank) (units : List Placed) where
       let Q : Placed → Type 0 = λ p. NotOffered w (pinned_by id rank p) in
       All-map (NotOffered w) (pinned_by id rank) units (All-weaker (NotOffered w) Q (not_pinned w id rank) units all)
 
+-- a queue without a unit for a wish has none after a pin
 pub none_pinned : (q : Queue) (rank : Rank) (o : Option Placed) (w : Wish) → HasNoneFor q w → HasNoneFor (pinned_to rank o q) w
 none_pinned q rank None w none = none
 none_pinned q rank (Some p) w none =
     not_any (IsOffered w.rank w.types) (map (pinned_by (id_of p) rank) q.units)
     (all_pinned w (id_of p) rank q.units (each_not (IsOffered w.rank w.types) q.units none))
 
+-- without one unit, a queue that has nothing for a wish has nothing for it still
 pub none_left : (q : Queue) (id : UnitId) (w : Wish) → HasNoneFor q w
     → Any (IsOffered w.rank w.types) (filter (has_other_id id) q.units) → ⊥
 none_left q id w none =
@@ -129,17 +136,21 @@ Rests q e = e.asked ≡ None → HasNoneFor q e.wish
 fits_less : (q r : Queue) (m : ParkedModel) → ((w : Wish) → HasNoneFor q w → HasNoneFor r w) → NoneFits q m → NoneFits r m
 fits_less q r m less rest = All-weaker (Rests q) (Rests r) (λ e rests idle. less e.wish (rests idle)) m.parked.waiting rest
 
+-- a grant leaves nothing that fits an idle rank that waits
 pub grant_rests : (q : Queue) (m : ParkedModel) (rank : Rank) (types : Option (List WorkType)) → NoneFits q m
     → NoneFits (with_grant q rank types) m
 grant_rests q m rank types = fits_less q (with_grant q rank types) m (none_pinned q rank (best_for q rank types))
 
+-- without one rank, nothing fits an idle rank that waits
 pub gone_rests : (q : Queue) (m : ParkedModel) (rank : Rank) → NoneFits q m → NoneFits q (gone m rank)
 gone_rests q m rank rest = All-filter (λ e. not (is_of rank e)) (Rests q) m.parked.waiting rest
 
+-- without one unit, nothing fits an idle rank that waits
 pub left_rests : (q : Queue) (m : ParkedModel) (id : UnitId) → NoneFits q m
     → NoneFits (record q { units = filter (has_other_id id) q.units }) m
 left_rests q m id = fits_less q (record q { units = filter (has_other_id id) q.units }) m (none_left q id)
 
+-- after a reserve nothing fits an idle rank that waits
 pub reserve_rests : (q : Queue) (m : ParkedModel) (w : Wish) → NoneFits q m
     → NoneFits (with_grant q w.rank w.types) (reserved m w (best_for q w.rank w.types))
 reserve_rests q m w rest = by_best (best_for q w.rank w.types) refl
@@ -168,6 +179,7 @@ turned_rests q test f e before after = by_test (test e) refl
     by_test true is = rw is (after is)
     by_test false is = rw is before
 
+-- after another server answers that it has none, nothing fits an idle rank that waits
 pub none_rests : (q : Queue) (m : ParkedModel) (rank : Rank) (e : Waiting) → IsParked m → entry_of m rank ≡ Some e → NoneFits q m
     → NoneFits (with_grant q rank e.wish.types) (after_none m rank (best_for q rank e.wish.types))
 none_rests q m rank e sound found rest = by_best (best_for q rank e.wish.types) refl
@@ -200,6 +212,7 @@ heard_rests q m from e before = by_asked e.asked refl
     by_asked None is = rw is (λ none. absurd (cc (none)))
     by_asked (Some s) is = rw is (λ none. absurd (cc (none)))
 
+-- after a hint nothing fits an idle rank that waits
 pub hint_rests : (q : Queue) (m : ParkedModel) (rank : Rank) (request : ℕ) (from : Server) → NoneFits q m
     → NoneFits q (hinted m rank request from)
 hint_rests q m rank request from rest =
@@ -225,6 +238,7 @@ not_taken : (unit : Unit) (e : Waiting) → takes unit.kind unit.target e ≡ fa
     → suits unit.kind unit.target e.wish ≡ false
 not_taken unit e fails idle = rw idle at fails
 
+-- after a unit is offered, nothing fits an idle rank that waits
 pub offer_rests : (q : Queue) (m : ParkedModel) (unit : Unit) → NoneFits q m
     → NoneFits (given (taker_of unit m) (record { unit = unit; pin = None }) (with_unit q unit)) (gone_if m (taker_of unit m))
 offer_rests q m unit rest = by_taker (taker_of unit m) refl
@@ -256,10 +270,12 @@ arrival_rests q m unit rest = by_taker (taker_of unit m) (offer_rests q m unit r
 wished_less : (q r : Queue) (m : ParkedModel) → ((w : Wish) → HasNoneFor q w → HasNoneFor r w) → NoneWished q m → NoneWished r m
 wished_less q r m less rest = All-weaker (HasNoneFor q) (HasNoneFor r) less m.parked.wishes rest
 
+-- a grant leaves nothing that fits a kept wish
 pub grant_wished : (q : Queue) (m : ParkedModel) (rank : Rank) (types : Option (List WorkType)) → NoneWished q m
     → NoneWished (with_grant q rank types) m
 grant_wished q m rank types = wished_less q (with_grant q rank types) m (none_pinned q rank (best_for q rank types))
 
+-- after an ask nothing fits a kept wish
 pub ask_wished : (q : Queue) (m : ParkedModel) (w : Wish) → NoneWished q m
     → NoneWished (with_grant q w.rank w.types) (after_ask m w (best_for q w.rank w.types))
 ask_wished q m w rest = by_best (best_for q w.rank w.types) refl
@@ -272,6 +288,7 @@ ask_wished q m w rest = by_best (best_for q w.rank w.types) refl
         All-filter (λ v. not (is_by w.rank v)) (HasNoneFor (pinned_to w.rank (Some p) q)) m.parked.wishes
         (wished_less q (pinned_to w.rank (Some p) q) m (none_pinned q w.rank (Some p)) rest)
 
+-- a unit that no wish is for leaves nothing that fits a kept wish
 pub hint_wished : (q : Queue) (m : ParkedModel) (unit : Unit) → NoneWished q m
     → hints_next unit.kind unit.target m.parked.wishes ≡ None → NoneWished (with_unit q unit) m
 hint_wished q m unit rest none k d within =

@@ -57,12 +57,14 @@ number e = e.wish.rank.0
 abbrev wish_number : Wish → ℕ
 wish_number w = w.rank.0
 
+-- at most as many ranks wait as there are
 pub waiting_few : (m : ParkedModel) → IsParked m → (some : Waiting) → length m.parked.waiting ≤ m.config.ranks
 waiting_few m sound some =
     let P : Waiting → Type 0 = IsWaiting m.config m.me in
     let Q : Waiting → Type 0 = λ e. number e < m.config.ranks in
     at_most number m.config.ranks some m.parked.waiting (All-weaker P Q (λ e is. is.here.0) m.parked.waiting sound.each) sound.once
 
+-- at most as many wishes are kept as there are ranks
 pub wishes_few : (m : ParkedModel) → IsParked m → (some : Wish) → length m.parked.wishes ≤ m.config.ranks
 wishes_few m sound some =
     let P : Wish → Type 0 = λ w. IsAway m.config m.me w.rank in
@@ -71,6 +73,7 @@ wishes_few m sound some =
 
 -- One waits no longer, or more.
 
+-- those that wait are sound without one rank
 pub gone_sound : (m : ParkedModel) (rank : Rank) → IsParked m → IsParked (gone m rank)
 gone_sound m rank sound = record {
   there = sound.there;
@@ -86,6 +89,7 @@ module _ (m : ParkedModel) (e : Waiting) (is : IsWaiting m.config m.me e) (new :
       both_ways (is_parked m e.wish.rank) new
       (list_any_at (is_of e.wish.rank) m.parked.waiting k d within (eq-eqb (get_or m.parked.waiting k d).wish.rank.0 e.wish.rank.0 same))
 
+  -- those that wait are sound with a rank that did not wait before
   pub parked_sound : IsParked (with_waiting m (m.parked.waiting ++ e ∷ []))
   parked_sound = record {
     there = sound.there;
@@ -103,6 +107,7 @@ module _ (m : ParkedModel) (e : Waiting) (is : IsWaiting m.config m.me e) (new :
 
 -- Wishes come and go.
 
+-- those that wait are sound after a rank's wish is forgotten
 pub forgotten_sound : (m : ParkedModel) (rank : Rank) → IsParked m → IsParked (forgotten m rank)
 forgotten_sound m rank sound =
     let P : Wish → Type 0 = λ w. IsAway m.config m.me w.rank in
@@ -119,6 +124,7 @@ module _ (m : ParkedModel) (w : Wish) (away : IsAway m.config m.me w.rank) (soun
   left : List Wish
   left = filter (λ v. not (is_by w.rank v)) m.parked.wishes
 
+  -- those that wait are sound with the wish of a rank of another home
   pub wished_sound : IsParked (wished m w)
   wished_sound =
       let less = forgotten_sound m w.rank sound in
@@ -141,6 +147,7 @@ module _ (m : ParkedModel) (w : Wish) (away : IsAway m.config m.me w.rank) (soun
           both_ways (is_by w.rank (get_or others k d)) (not-true (is_by w.rank (get_or others k d)) passes)
           (eq-eqb (get_or others k d).rank.0 w.rank.0 same)
 
+  -- without the rank's own wish there is room for it
   pub wish_left : length (filter (λ v. not (is_by w.rank v)) m.parked.wishes) < m.config.ranks
   wish_left =
       let most = wishes_few (wished m w) wished_sound w in
@@ -173,6 +180,7 @@ module _ (m : ParkedModel) (test : Waiting → Bool) (f : Waiting → Waiting) (
       ∙ ap (λ (w : Wish). w.rank.0) (stays (get_or xs k d)) in
       sound.once i j d before last (sym (at i first) ∙ same ∙ at j last)
 
+  -- those that wait are sound after a change that keeps their wishes
   pub turned_sound : IsParked (with_turned m test f)
   turned_sound =
       let P : Waiting → Type 0 = IsWaiting m.config m.me in
@@ -204,12 +212,14 @@ none_left [] none = refl
 none_left (s ∷ servers) none = absurd (cc (none))
 
 module _ (config : Config) (me : Server) where
+  -- the first server to ask is another
   pub first_other : (servers : List Server) → All (IsOther config me) servers → (s : Server) → slice_get servers 0 ≡ Some s
       → IsOther config me s
   first_other servers all s is =
       let read : get_or servers 0 s ≡ s = get_or_from_slice_get servers 0 s s is in
       subst (IsOther config me) read (all 0 s (slice_get_within servers 0 s is))
 
+  -- a rank that asks other servers waits as it should
   pub asking_waits : (w : Wish) (servers : List Server) → IsHere config me w.rank → All (IsOther config me) servers
       → IsWaiting config me (asking w servers)
   asking_waits w servers here all = record {
@@ -219,12 +229,15 @@ module _ (config : Config) (me : Server) where
     settled = none_left servers;
   }
 
+  -- a rank parked by its home, with all others to ask, waits as it should
   pub parks_waits : (w : Wish) → me.0 < config.servers → IsHere config me w.rank → IsWaiting config me (asking w (others config me))
   parks_waits w there here = asking_waits w (others config me) here (all_others config me there)
 
+  -- a rank whose next server is asked waits as it should
   pub next_waits : (e : Waiting) → IsWaiting config me e → IsWaiting config me (asks_next e)
   next_waits e is = asking_waits e.wish e.to_ask is.here is.to_ask
 
+  -- a rank that waits does so as it should after its home heard of a server
   pub heard_waits : (from : Server) → me.0 < config.servers → IsOther config me from → (e : Waiting) → IsWaiting config me e
       → IsWaiting config me (hears_of config me from e)
   heard_waits from there other e is = by_asked e.asked refl
@@ -247,6 +260,7 @@ module _ (config : Config) (me : Server) where
         settled = λ none. absurd (cc (none));
       }
 
+  -- what is heard of a server leaves the wish
   pub heard_wish : (from : Server) (e : Waiting) → (hears_of config me from e).wish ≡ e.wish
   heard_wish from e = by_idle (is_idle e) refl
     where

@@ -37,7 +37,7 @@ abbrev pub step_for : Server → Option Placed → List Server → ReserveStep
 step_for me (Some p) servers = Granted (note_of me p.unit)
 step_for me None servers = step_of (slice_get servers 0)
 
--- the server stands in the list
+-- the server is in the list
 abbrev pub has_server : List Server → Server → Bool
 has_server servers s = list_any (λ (t : Server). t.0 == s.0) servers
 
@@ -59,6 +59,7 @@ gone m rank = with_waiting m (filter (λ e. not (is_of rank e)) m.parked.waiting
 abbrev pub turned : (Waiting → Bool) → (Waiting → Waiting) → Waiting → Waiting
 turned test f e = if test e then f e else e
 
+-- those that wait, with those that pass changed
 abbrev pub with_turned : ParkedModel → (Waiting → Bool) → (Waiting → Waiting) → ParkedModel
 with_turned m test f = with_waiting m (map (turned test f) m.parked.waiting)
 
@@ -71,6 +72,7 @@ reserved m wish None = with_waiting m (m.parked.waiting ++ asking wish (others m
 abbrev pub asks_next : Waiting → Waiting
 asks_next e = asking e.wish e.to_ask
 
+-- after the answer without a unit: the rank gets one here, or its next server is asked
 abbrev pub after_none : ParkedModel → Rank → Option Placed → ParkedModel
 after_none m rank (Some p) = gone m rank
 after_none m rank None = with_turned m (is_of rank) asks_next
@@ -88,6 +90,7 @@ hears_of config me from e =
     then record e { asked = Some from; to_ask = without_server e.to_ask from }
     else record e { to_ask = with_server config me e.to_ask from }
 
+-- after a hint the server is among those to be asked
 abbrev pub hinted : ParkedModel → Rank → ℕ → Server → ParkedModel
 hinted m rank request from = with_turned m (is_since rank request) (hears_of m.config m.me from)
 
@@ -102,9 +105,11 @@ abbrev pub is_soft_for : Target → Rank → Bool
 is_soft_for (Soft first) rank = first.0 == rank.0
 is_soft_for _ rank = false
 
+-- the unit is permitted to who made the wish
 abbrev pub suits : WorkType → Target → Wish → Bool
 suits kind target w = permitted w.rank w.types kind target
 
+-- the first value, or the other without it
 abbrev pub or_else : {X : Type 0} → Option X → Option X → Option X
 or_else (Some x) other = Some x
 or_else None other = other
@@ -113,12 +118,15 @@ or_else None other = other
 abbrev pub takes : WorkType → Target → Waiting → Bool
 takes kind target e = is_idle e && suits kind target e.wish
 
+-- an idle rank takes the unit, and the target names it before others
 abbrev pub takes_first : WorkType → Target → Waiting → Bool
 takes_first kind target e = takes kind target e && is_soft_for target e.wish.rank
 
+-- the idle rank that takes a unit of this type and target
 abbrev pub taker : WorkType → Target → List Waiting → Option Waiting
 taker kind target waiting = or_else (find (takes_first kind target) waiting) (find (takes kind target) waiting)
 
+-- the idle rank that takes the unit
 abbrev pub taker_of : Unit → ParkedModel → Option Waiting
 taker_of unit m = taker unit.kind unit.target m.parked.waiting
 
@@ -126,6 +134,7 @@ taker_of unit m = taker unit.kind unit.target m.parked.waiting
 abbrev pub call_of : Wish → Rank × ℕ
 call_of w = (w.rank, w.request)
 
+-- the rank, its request and the note of the unit
 abbrev pub granted : Server → Unit → Waiting → Rank × ℕ × UnitNote
 granted me unit e = (e.wish.rank, e.wish.request, note_of me unit)
 
@@ -163,9 +172,11 @@ after_ask m wish None = wished m wish
 abbrev pub suits_first : WorkType → Target → Wish → Bool
 suits_first kind target w = suits kind target w && is_soft_for target w.rank
 
+-- the wish that is taken off next
 abbrev pub hints_next : WorkType → Target → List Wish → Option Wish
 hints_next kind target wishes = or_else (find (suits_first kind target) wishes) (find (suits kind target) wishes)
 
+-- without the wish that was found, if one was
 abbrev pub forgotten_if : ParkedModel → Option Wish → ParkedModel
 forgotten_if m None = m
 forgotten_if m (Some w) = forgotten m w.rank
@@ -174,5 +185,6 @@ forgotten_if m (Some w) = forgotten m w.rank
 abbrev pub request_of : Waiting → ℕ × Option Server
 request_of e = (e.wish.request, e.asked)
 
+-- the rank with the types that it wants
 abbrev pub wants : Waiting → Rank × Option (List WorkType)
 wants e = (e.wish.rank, e.wish.types)

@@ -1,4 +1,4 @@
--- Ranks of which those that wait stand in front.
+-- Ranks of which those that wait come first.
 use Rattle.std.specs.Prelude.{ℕ, List}
 use Rattle.reserve_path.specs.declared.waits.Waiting.{Waiting}
 

@@ -27,6 +27,7 @@ empty config me = record { config = config; me = me; parked = record { waiting =
 abbrev pub with_waiting : ParkedModel → List Waiting → ParkedModel
 with_waiting m waiting = record m { parked = record m.parked { waiting = waiting } }
 
+-- the model with these wishes
 abbrev pub with_wishes : ParkedModel → List Wish → ParkedModel
 with_wishes m wishes = record m { parked = record m.parked { wishes = wishes } }
 
@@ -34,6 +35,7 @@ with_wishes m wishes = record m { parked = record m.parked { wishes = wishes } }
 abbrev pub IsHere : Config → Server → Rank → Type 0
 IsHere config me rank = (rank.0 < config.ranks) × (home_of config.servers rank ≡ me.0)
 
+-- the rank is in the run, and at home elsewhere
 abbrev pub IsAway : Config → Server → Rank → Type 0
 IsAway config me rank = (rank.0 < config.ranks) × (home_of config.servers rank ≢ me.0)
 
@@ -43,9 +45,11 @@ IsOther config me s = (s.0 < config.servers) × (s.0 ≢ me.0)
 
 -- Tests.
 
+-- the wish is of the rank
 abbrev pub is_by : Rank → Wish → Bool
 is_by rank w = w.rank.0 == rank.0
 
+-- the entry is of the rank
 abbrev pub is_of : Rank → Waiting → Bool
 is_of rank e = is_by rank e.wish
 
@@ -53,6 +57,7 @@ is_of rank e = is_by rank e.wish
 abbrev pub is_idle : Waiting → Bool
 is_idle e = is_none e.asked
 
+-- a server is asked for the entry
 abbrev pub is_asked : Waiting → Bool
 is_asked e = is_some e.asked
 
@@ -60,6 +65,7 @@ is_asked e = is_some e.asked
 abbrev pub is_parked : ParkedModel → Rank → Bool
 is_parked m rank = list_any (is_of rank) m.parked.waiting
 
+-- the rank waits, and a server is asked for it
 abbrev pub is_pending : ParkedModel → Rank → Bool
 is_pending m rank = list_any (λ e. is_of rank e && is_asked e) m.parked.waiting
 
@@ -69,6 +75,7 @@ entry_of m rank = find (is_of rank) m.parked.waiting
 
 -- What is so of each.
 
+-- a rank waits as it should
 pub record IsWaiting (config : Config) (me : Server) (e : Waiting) : Type 0 where
   pub here : IsHere config me e.wish.rank
   -- only other servers are asked
@@ -77,6 +84,7 @@ pub record IsWaiting (config : Config) (me : Server) (e : Waiting) : Type 0 wher
   -- for an idle rank none is still to be asked
   pub settled : e.asked ≡ None → e.to_ask ≡ []
 
+-- all that waits is as it should be
 pub record IsParked (m : ParkedModel) : Type 0 where
   pub there : m.me.0 < m.config.servers
   pub each : All (IsWaiting m.config m.me) m.parked.waiting

@@ -60,8 +60,9 @@ impl Parked {
     }
 
     /// Another server had no unit for the rank, which is at home here, in its call of this number, and has one now
-    /// (`hinted`). If the rank waits since that call, the server is among those that are still to be asked; if it is
-    /// idle too, the server is the answer: it is asked at once. If it does not wait since that call, nothing changes.
+    /// (`hinted`). If the rank waits since that call, the server is among those that are still to be asked. If the
+    /// rank is idle too, the server is the answer: it is asked at once. If it does not wait since that call, nothing
+    /// changes.
     pub fn hint(&mut self, rank: Rank, request: u64, from: Server) -> Option<Server>
         requires here { IsHere self.old.config self.old.me rank }
         requires other { IsOther self.old.config self.old.me from }
@@ -75,9 +76,9 @@ impl Parked {
         }
     }
 
-    /// A free unit of this type and target is here, which no rank that waits here takes: the next wish to which it is
-    /// permitted is taken off (`hints_next`), that of the rank that the target names before others first. The answer is
-    /// the rank and its request, of which its home is to be told; `None` exactly if there is no such wish.
+    /// A free unit of this type and target is here, which no rank that waits here takes. The next wish to which it is
+    /// permitted is taken off (`hints_next`), first that of the rank which the target names before others. The answer
+    /// is the rank and its request, of which its home is to be told; `None` exactly if there is no such wish.
     pub fn next_hint(&mut self, kind: WorkType, target: Target) -> Option<(Rank, u64)>
         ensures wish { result ≡ option_map call_of (hints_next kind target self.old.parked.wishes) }
         ensures parked { self.new ≡ forgotten_if self.old (hints_next kind target self.old.parked.wishes) }

@@ -28,9 +28,8 @@ pub fn grant_laws()
     ensures alone { (config : Config) (me : Server) → (others config me ≡ []) ↔ (config.servers ≡ 1) }
 {}
 
-/// No free unit lies for an idle rank (`NoneFits`): a reserve keeps this, and so do an answer of another server that
-/// it has none, one that grants or ends, a hint, a unit that is granted or that goes; and after a unit became free it
-/// holds again once the unit was offered.
+/// No free unit lies for an idle rank (`NoneFits`). A reserve keeps this, and so do a hint, a unit that is granted or
+/// that goes, and what another server answers. After a unit became free it holds again once the unit was offered.
 pub fn parked_laws()
     ensures reserve { (q : Queue) (m : ParkedModel) (wish : Wish) → NoneFits q m →
         NoneFits (with_grant q wish.rank wish.types) (reserved m wish (best_for q wish.rank wish.types)) }
@@ -51,8 +50,8 @@ pub fn parked_laws()
         (gone_if m (taker_of unit m)) }
 {}
 
-/// No free unit lies for a rank that waits elsewhere and has a wish here (`NoneWished`): a request of another home
-/// keeps this, and so does a unit that is granted; and after a unit became free it holds again once no wish is left
+/// No free unit lies for a rank that waits elsewhere and has a wish here (`NoneWished`). A request of another home
+/// keeps this, and so does a unit that is granted. After a unit became free it holds again once no wish is left
 /// that it takes off.
 pub fn wish_laws()
     ensures ask { (q : Queue) (m : ParkedModel) (wish : Wish) → NoneWished q m →

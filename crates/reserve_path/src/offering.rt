@@ -12,9 +12,9 @@ use adlb_unit::{Rank, UnitId, UnitNote};
 use work_queue::WorkQueue;
 
 impl Parked {
-    /// Gives the free unit of this id to an idle rank (`taker_of`): to the one that its target names before others,
-    /// otherwise to the first in the order in which they came to which it is permitted. That rank waits no longer, and
-    /// the unit is pinned to it. The answer is the rank, its request, and the note of the unit; `None` exactly if there
+    /// Gives the free unit of this id to an idle rank (`taker_of`). It is the one that its target names before
+    /// others, otherwise the first that came of those to which it is permitted. That rank waits no longer, and the
+    /// unit is pinned to it. The answer is the rank, its request, and the note of the unit; `None` exactly if there
     /// is no such rank.
     pub fn offer(&mut self, queue: &mut WorkQueue, id: UnitId) -> Option<(Rank, u64, UnitNote)>
         requires { HasFree id queue.old.units }

@@ -61,8 +61,8 @@ impl Parked {
         (self.config, self.me)
     }
 
-    /// For some rank that waits, a server that was asked is unanswered. Besides, it tells what is so of all that wait
-    /// (`IsParked`): no rank waits twice or has two wishes, each rank waits at its home, only other servers are asked,
+    /// For some rank that waits, a server that was asked is unanswered. Besides, it says what is so of all that wait
+    /// (`IsParked`). No rank waits twice or has two wishes, and each waits at its home. Only other servers are asked,
     /// and for an idle rank no server is still to be asked.
     pub fn unanswered(&self) -> bool
         ensures some { result ≡ list_any is_asked self.now.parked.waiting }
@@ -108,7 +108,7 @@ impl Parked {
     }
 
     /// Copies the ranks that wait, each with the types that it wants, to the front of the room, in the order in which
-    /// they came, and tells how many they are. The rest of the room stays as it was.
+    /// they came, and counts them. The rest of the room stays as it was.
     pub fn asked(&self, room: &mut [(Rank, Types); RANK_LIMIT as usize]) -> u32
         ensures count { result ≡ length self.now.parked.waiting }
         ensures room { room.new ≡ map wants self.now.parked.waiting ++ drop (length self.now.parked.waiting) room.old }

@@ -56,6 +56,7 @@ module _ {A W K : Type 0} (asks : List ℕ → A → Type 0) (refuses : List ℕ
     ends_early (TooLong stamp) is same = (is.0, is.1, record { nothing = same; none_kept = refl })
     ends_early (TooLarge taken) is same = (is.0, is.1, is.2, is.3, record { nothing = same; none_kept = refl })
 
+    -- a run that stopped ends by its fault, with nothing written and no report
     pub ends_as_stopped : (fault : Fault W) (told : Option (Fault W)) (kept : Option K) → told ≡ Some fault → kept ≡ None →
         Stops asks refuses long before.left after.left before.reads after.reads before.refused after.refused fault →
         after.taken ≡ before.taken → EndsBy asks refuses keeps tells long before after told kept
@@ -128,6 +129,7 @@ module _ {K : Type 0} (P : K → Type 0) (kept : K) (is : P kept) where
         subst (λ k. IfSome k P) (sym some) is
   ]
 
+  -- what is kept after the writing has the property of what was to be kept
   pub kept_has : {W : Type 0} (text : List ℕ) (before after : Option (List ℕ)) (faults now : ℕ) (flushed : Bool) (fault : Option (Fault W))
       (keeps : Option K) → Writes kept text before after faults now flushed fault keeps → IfSome keeps P
   kept_has text before after faults now flushed fault keeps (inl w) = subst (λ k. IfSome k P) (sym w.keeps_it) is

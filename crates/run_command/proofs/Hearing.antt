@@ -15,22 +15,27 @@ use Rattle.run_command.specs.inside.{HasWorked, IsOneMore, IsTroubleOf}
 
 -- One call more at most.
 
+-- a transcript is one call longer than itself at most
 pub one_same : (said : List Said) → IsOneMore said said
 one_same said = ([], sym (append-nil said), omega arith)
 
+-- a transcript with one call more is one call longer at most
 pub one_plus : (said now : List Said) (call : Call) (answer : Option Answer) → now ≡ plus said call answer → IsOneMore said now
 one_plus said now call None is = ([], is ∙ sym (append-nil said), omega arith)
 one_plus said now call (Some answer) is = (record { call = call; answer = answer } ∷ [], is, omega arith)
 
 -- A failure is kept.
 
+-- a fault repeats itself
 pub repeats_same : (failed : Option Trouble) → Repeats failed failed
 repeats_same None = tt
 repeats_same (Some trouble) = refl
 
+-- a fault repeats what an equal one does
 pub repeats_as : (before now : Option Trouble) (o : Option Trouble) → now ≡ o → Repeats before o → Repeats before now
 repeats_as before now o is repeats = subst (λ t. Repeats before t) (sym is) repeats
 
+-- a link that had failed has failed with that trouble
 pub repeated : (before now : Option Trouble) (trouble : Trouble) → Repeats before now → before ≡ Some trouble → now ≡ Some trouble
 repeated before now trouble repeats is = subst (λ o. Repeats o now) is repeats
 
@@ -45,9 +50,11 @@ memory_alone (Err (troubles.TooLong stamp)) worked last told repeats whole =
 
 -- Troubles.
 
+-- memory is a trouble in every case
 pub memory_is : (long : Type 0) (trouble : Trouble) → trouble ≡ troubles.Memory → IsTroubleOf long trouble
 memory_is long trouble is = subst (λ t. IsTroubleOf long t) (sym is) tt
 
+-- a trouble stays one where more is allowed
 pub trouble_wider : (long wider : Type 0) (trouble : Trouble) → (long → wider) → IsTroubleOf long trouble → IsTroubleOf wider trouble
 trouble_wider long wider troubles.Memory each is = tt
 trouble_wider long wider (troubles.TooLong stamp) each is = (is.0, each is.1)
@@ -58,6 +65,7 @@ module _ {A P : Type 0} (are_programs : ℕ → A → List P → Type 0) (so_far
     (worked : List Said) (work : HasWorked (so_far program zeroth) worked) (last : Run) (one : IsOneMore worked last.transcript)
     (holds : IsInline last)
   where
+    -- if its transcript has 2^35 calls, the rank has heard of more than its program can make
     pub has_heard : 2 ^ 35 ≤ length last.transcript → HasHeard are_programs so_far asked (2 ^ 34)
     has_heard enough =
         let told = holds.told in

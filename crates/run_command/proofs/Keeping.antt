@@ -102,6 +102,7 @@ abbrev report_with : {O : Type 0} → Config → List Entry → List (List Said)
 report_with config ledger transcripts outcomes left =
     record { config = config; ledger = ledger; transcripts = transcripts; outcomes = outcomes; left = left }
 
+-- a report of one rank is the report with that rank's transcript and outcome
 pub reported : {V O : Type 0} (config : Config) (ledger : List Entry) (left : List LeftUnit) (seen_as : V → List Said)
     (transcripts : List V)
     (transcript : V) (outcomes : List O) (outcome : O) → transcripts ≡ transcript ∷ [] → outcomes ≡ outcome ∷ [] →

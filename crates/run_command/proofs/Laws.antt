@@ -5,11 +5,12 @@ use Rattle.run_command.specs.Ends.{Asks, EndsBy, IsFine, Keeps, Scene, input_lim
 use Rattle.run_command.specs.declared.faults.Fault.{Fault}
 use Rattle.run_command.specs.declared.faults.Fault.TheVariants.{Input, Read, Write, NoThread, Memory, TooLong, TooLarge}
 
--- Nothing but memory fails of an input whose run may not be so long, if nothing else does that is told of the outside.
+-- If the run of an input cannot be so long, and nothing outside fails, nothing but memory does.
 module _ {A W K : Type 0} (asks : List ℕ → A → Type 0) (refuses : List ℕ → ℕ → W → Type 0) (keeps : A → K → Type 0)
     (tells : A → K → List ℕ → Type 0) (long : A → Type 0) (before after : Scene) (kept : Option K) (bytes : List ℕ)
     (told : before.left ≡ Some bytes) (short : (asked : A) → asks bytes asked → long asked → ⊥)
   where
+    -- a run that ended well, and whose stamps cannot run out, ended without a fault or without memory
     pub short_fine : (fault : Option (Fault W)) → EndsBy asks refuses keeps tells long before after fault kept → IsFine fault →
         (fault ≡ None) ⊎ (fault ≡ Some Memory)
     short_fine None ends fine = inl refl

@@ -1,5 +1,5 @@
--- How a command that runs a rank program over an input ends. What its input asks (`asks`), which line of it is refused and why
--- (`refuses`), what is kept of a run over what is asked (`keeps`), and what is written of it (`tells`) are the command's own.
+-- How a command that runs a rank program over an input ends. The command's own are what its input asks (`asks`), which line is refused and
+-- why (`refuses`), what is kept of a run (`keeps`), and what is written of it (`tells`).
 use Rattle.std.specs.Prelude.{◌≡◌, ◌↔◌, ◌<◌, ◌≤◌, ◌+◌, ◌^◌, ℕ, Bool, true, List, length, Option, Some, None, IsSome}
 use Rattle.adlb_io.specs.Inputs.{HasMore, IsAtEnd}
 use Rattle.adlb_io.specs.Outside.{Rises, Takes}
@@ -11,8 +11,8 @@ use Rattle.run_command.specs.declared.faults.Fault.TheVariants.{Input, Read, Wri
 abbrev pub input_limit : ℕ
 input_limit = 2 ^ 24
 
--- what is seen of the outside: what the source has left and the sink took, their counts of faults, that all is flushed, and how many
--- starts of threads were refused and how many were not
+-- What is seen of the outside: what the source has left and the sink took, their counts of faults, and that all is flushed. Also how many
+-- starts of threads were refused and how many were not.
 pub record Scene : Type 0 where
   pub left : Option (List ℕ)
   pub reads : ℕ
@@ -22,6 +22,7 @@ pub record Scene : Type 0 where
   pub refused : ℕ
   pub started : ℕ
 
+-- what is seen of the outside
 abbrev pub scene : Option (List ℕ) → ℕ → Option (List ℕ) → ℕ → Bool → ℕ → ℕ → Scene
 scene left reads taken writes flushed refused started =
     record { left = left; reads = reads; taken = taken; writes = writes; flushed = flushed; refused = refused; started = started }
@@ -31,6 +32,7 @@ pub record ReadsNothing (before after : Scene) : Type 0 where
   pub left : after.left ≡ before.left
   pub reads : after.reads ≡ before.reads
 
+-- no thread was started or refused
 pub record StartsNone (before after : Scene) : Type 0 where
   pub refused : after.refused ≡ before.refused
   pub started : after.started ≡ before.started
@@ -61,6 +63,7 @@ pub record Asks {A : Type 0} (asks : List ℕ → A → Type 0) (bytes : List �
 abbrev pub HasAsked : {A : Type 0} → (List ℕ → A → Type 0) → Option (List ℕ) → Type 0
 HasAsked {A} asks left = (bytes : List ℕ) → left ≡ Some bytes → (asked : A) × Asks asks bytes asked
 
+-- if the bytes are told, their line is refused with this reason
 abbrev pub IsRefusedAt : {W : Type 0} → (List ℕ → ℕ → W → Type 0) → Option (List ℕ) → ℕ → W → Type 0
 IsRefusedAt refuses left line why = (bytes : List ℕ) → left ≡ Some bytes → (length bytes ≤ input_limit) × refuses bytes line why
 

@@ -56,7 +56,7 @@ pub record IsKept {A P O : Type 0} (are_programs : ℕ → A → List P → Type
   pub left : k.report.left ≡ []
 
 -- a run in line or with threads: what it keeps has such numbers. With threads, what is kept is of a run in threads, which is one run of
--- all actors (`Kept::one_run`). A thread for each rank and for each server was started, or the count stands at its last value. A run in
+-- all actors (`Kept::one_run`). A thread for each rank and for each server was started, or the count is at its last value. A run in
 -- line leaves the spawner alone.
 pub record IsRunWith {O : Type 0} (IsOf : Config → Type 0) (inline : Bool) (before after : Scene) (kept : Option (Kept O)) : Type 0 where
   pub numbers : IfSome kept (λ k. IsOf k.report.config)

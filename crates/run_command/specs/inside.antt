@@ -23,7 +23,7 @@ use Rattle.run_command.specs.Ends.{HasAsked, IsRefusedAt, input_limit}
 use Rattle.run_command.specs.declared.faults.Fault.{Fault}
 use Rattle.run_command.specs.declared.faults.Fault.TheVariants.{Input, Read, Write, NoThread, Memory, TooLong, TooLarge}
 
--- a thread for each rank and for each server was started, or the count stands at its last value
+-- a thread for each rank and for each server was started, or the count is at its last value
 abbrev pub HasStarted : Config → ℕ → ℕ → Type 0
 HasStarted config before now = RisesBy (config.ranks + config.servers) before now
 
@@ -35,8 +35,8 @@ IsRefusal refuses (Input line why) = refuses line why
 IsRefusal refuses Memory = Unit {0}
 IsRefusal refuses fault = ⊥
 
--- why an input has no answer, with what its source has left, the counts of its faults and those of refused starts, before and after; what
--- it asks may be so long if the stamps ran out
+-- Why an input has no answer, with what its source has left, the counts of its faults and those of refused starts, before and after. If the
+-- stamps ran out, what it asks may be that long.
 abbrev pub Stops : {A W : Type 0} → (List ℕ → A → Type 0) → (List ℕ → ℕ → W → Type 0) → (A → Type 0) → Option (List ℕ) → Option (List ℕ)
     → ℕ → ℕ → ℕ → ℕ → Fault W → Type 0
 Stops asks refuses long left left' reads reads' refused refused' (Input line why) =
@@ -57,10 +57,12 @@ IsTroubleOf long (troubles.TooLong stamp) = (2 ^ 48 ≤ stamp) × long
 
 -- Which fault one of a run is.
 
+-- the fault of a trouble
 abbrev pub fault_by : {W : Type 0} → Trouble → Fault W
 fault_by troubles.Memory = Memory
 fault_by (troubles.TooLong stamp) = TooLong stamp
 
+-- the fault of a run
 abbrev pub fault_ran : {W : Type 0} → RanFault → Fault W
 fault_ran runs.NoThread = NoThread
 fault_ran runs.Memory = Memory
@@ -132,6 +134,7 @@ pub record WritesPart {W K : Type 0} (kept : K) (text : List ℕ) (before after 
   pub taken : Takes before after (take unwritten.taken text)
   pub cause : unwritten.fault ≡ sinks.Failed → Rises faults faults'
 
+-- how the writing of a text ended: whole, or in part
 abbrev pub Writes : {W K : Type 0} → K → List ℕ → Option (List ℕ) → Option (List ℕ) → ℕ → ℕ → Bool → Option (Fault W) → Option K → Type 0
 Writes kept text before after faults faults' flushed fault keeps =
     WritesAll kept text before after flushed fault keeps ⊎ WritesPart kept text before after faults faults' fault keeps

@@ -61,8 +61,8 @@ impl<W> Fault<W> {
     }
 }
 
-/// How a run of a command ended: why it did not write its whole output, if so, and what is kept of it: something if some of the output
-/// was written, or if a write failed.
+/// How a run of a command ended: why it did not write its whole output, if so, and what is kept of it. Something is
+/// kept if some of the output was written, or if a write failed.
 #[derive(Drop)]
 pub struct Ended<W, O> {
     pub fault: Option<Fault<W>>,

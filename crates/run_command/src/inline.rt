@@ -22,7 +22,7 @@ use std::alloc::Global;
 ///
 /// `EndsBy` says of each end what was written and kept and why it came, whatever a spawner of threads counts: none is used. Without a
 /// fault the whole text was written and flushed, and the kept ledger is a legal run. `Input`: a line is refused, and no read failed.
-/// `TooLarge`: the input has more than 2^24 bytes. `Read` and `Write`: the count of faults of the source or of the sink rose (or stands
+/// `TooLarge`: the input has more than 2^24 bytes. `Read` and `Write`: the count of faults of the source or of the sink rose (or is
 /// at its last value). `TooLong`: a stamp would be past the last one, and what is asked may take 2^34 calls of the rank. `Memory`: an
 /// allocation failed; contracts never say when.
 pub fn run_inline<C, S, K>(

@@ -107,7 +107,7 @@ fn close(world: &mut InlineWorld)
     }
 }
 
-// What stands in the world at its end.
+// What the world has at its end.
 fn end(world: InlineWorld) -> Result<(Ledger, Trace<Said>, Vec<LeftUnit>), Trouble>
     requires finished { world.run.finished ≡ true }
     ensures ended { IfOk result (λ parts. IsEnd world.run parts.0 parts.1.items parts.2.items) }

@@ -14,7 +14,7 @@ use std::alloc::Global;
 const INPUT_LIMIT: usize = 0x100_0000;
 
 /// Reads what the input asks. `TooLarge` comes exactly if it has more than 2^24 bytes, of which one more is then taken. `Input` comes
-/// exactly if one of its lines is refused, both only if no read failed; `Read` only if the source's count of faults rose (or stands at
+/// exactly if one of its lines is refused, both only if no read failed; `Read` only if the source's count of faults rose (or is at
 /// its last value). Any of these yields to `Memory`.
 pub(crate) fn read_input<C, S>(
     alloc: Global,

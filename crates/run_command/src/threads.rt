@@ -25,7 +25,7 @@ use std::alloc::Global;
 /// writes what is told. It waits for its threads.
 ///
 /// `EndsBy` says of each end what was written and kept and why it came, as of a run in line, and one end besides. `NoThread`: the
-/// spawner's count of faults rose (or stands at its last value). Of `TooLong` it says no more than that a stamp would be past the last
+/// spawner's count of faults rose (or is at its last value). Of `TooLong` it says no more than that a stamp would be past the last
 /// one. What is kept is of a run in threads, which is one run of all actors (`Kept::one_run`).
 pub fn run_threads<C, S, K, T, G>(
     alloc: Global,

@@ -165,9 +165,9 @@ fn moving_copy(entry: &Entry) -> Result<Entry, Fail> {
     Ok(copy)
 }
 
-/// The entry with one change, by which it is no step where it was one: a call of another number, a unit that was not put, or a
-/// batch that was not begun, another charge, another number of free units, another end; an end in place of exhaustion, and a
-/// Finish in place of a put or of the beginning of a batch.
+/// The entry with one change, by which it is no step where it was one. A call has another number, or a unit was not
+/// put, or a batch not begun. A charge, a number of free units or an end is another. An end stands in place of
+/// exhaustion, or a Finish in place of a put or of the beginning of a batch.
 pub(crate) fn changed(entry: &Entry) -> Result<Entry, Fail> {
     let changed = match entry {
         Entry::Asked { rank, call, types } => Entry::Asked {

@@ -101,11 +101,11 @@ fn is_judged(
     Ok(first_illegal(alloc, ledger, config) == Ok(None) && shows(alloc, entries, config, place)?)
 }
 
-// What some run has shown: a put that each server refused; a unit that went to a waiting rank as it came; a count of some unit; a look
-// at one server after another; a try with several servers that was granted; a unit that another server than the home had for a rank
-// that reserved, and one that came there only after the rank had asked; a push that was taken back; in how many runs with several
-// servers a unit moved, in how many these found that all work is used up, in how many the problem was done, and in how many a common
-// part was freed; and how many entries all have.
+// What some run has shown. A put that each server refused; a unit that went to a waiting rank as it came; a count of
+// some unit. A look at one server after another; a try with several servers that was granted. A unit that another
+// server had for a rank that reserved, and one that came there only after the rank had asked. A push that was taken
+// back. In how many runs with several servers a unit moved, these found that all work is used up, the problem was
+// done, and a common part was freed. How many entries all have.
 #[derive(Debug, Default, Drop)]
 struct Seen {
     rejects: bool,

@@ -403,8 +403,8 @@ fn is_line(alloc: Global, entry: &Entry, wanted: &str) -> Result<bool, Fail> {
     Ok(line.as_str() == wanted)
 }
 
-// An entry as it is shown: of what is put its type, its length and its first byte, of a common part these two, and of a
-// reserve and a try no types.
+// An entry as it is shown. Of what is put it shows type, length and first byte, of a common part the latter two, and
+// of a reserve and a try no types.
 fn line(alloc: Global, entry: &Entry) -> Result<String, Fail> {
     let mut line = String::new(alloc);
     add_entry(&mut line, entry)?;

@@ -692,7 +692,7 @@ fn tries_are_checked(rt: HostRuntime) -> Result<(), Fail> {
     check(&rt, rt.alloc(), IN_VAIN)
 }
 
-// The common part is freed early; a rank asks while a fetch is due; no fetch of the unit; the common part is fetched
+// The common part is freed early; a rank asks while a fetch is due; no fetch of the unit. The common part is fetched
 // elsewhere; another count; a rank finishes while its batch goes on.
 const BATCHES: &[Mutant] = &[
     (Base::BatchOfTwo, 15, Insert(Freed), 15),
@@ -780,8 +780,8 @@ fn soft_targets_let_each_rank_have_the_unit(rt: HostRuntime) -> Result<(), Fail>
     check(&rt, rt.alloc(), SOFT)
 }
 
-// A push without its promise, twice; one from elsewhere; a withdrawal where no promise stands; no promise back; a grant
-// where the unit was; a charge that still stands, and one that counts twice.
+// A push without its promise, twice; one from elsewhere; a withdrawal without a promise; no promise back. A grant
+// where the unit was; a charge that is not taken off, and one that counts twice.
 const PUSHES_BACK: &[Mutant] = &[
     (Base::PushedBack, 3, Remove, 3),
     (Base::PushedBack, 4, Remove, 4),

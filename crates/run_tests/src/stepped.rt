@@ -374,7 +374,7 @@ fn play(rt: &impl Abort, alloc: Global, servers: u32, scene: &[(Line, &str)]) ->
     go_through(rt, alloc, &mut world, servers, scene)
 }
 
-// The world gives what stands beside each line.
+// The world gives what is written beside each line.
 fn go_through(
     rt: &impl Abort,
     alloc: Global,

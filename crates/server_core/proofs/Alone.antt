@@ -1,4 +1,4 @@
--- One element of a list in which each has a number of its own: those before it, and those behind.
+-- One element of a list in which each has a number of its own: those before it, and those after.
 use Rattle.std.proofs.Common.{◌≡◌, ◌≢◌, ◌+◌, ◌==◌, ℕ, suc, Bool, true, false, ◌&&◌, ◌||◌, not, cond, List, [], ◌∷◌, ◌++◌, length, filter}
 use Rattle.std.proofs.Common.{find, get_or, Some, All, refl, sym, ap, ◌∙◌, arith, length-append}
 use Rattle.std.specs.List.{AllPairs, list_any}
@@ -21,6 +21,7 @@ pub record IsSplit {X : Type 0} (test : X → Bool) (xs : List X) (x : X) : Type
   pub fails : NonePasses test before
 
 module _ {X : Type 0} (test : X → Bool) where
+  -- what is found splits the list before and after it
   pub found_split : (xs : List X) (x : X) → find test xs ≡ Some x → IsSplit test xs x
   found_split [] x found = absurd (cc)
   found_split (y ∷ xs) x found = by_test (test y) refl found (found_split xs x)
@@ -46,6 +47,7 @@ module _ {X : Type 0} (test : X → Bool) where
             fails = All-cons (λ z. test z ≡ false) y more.before is more.fails;
           }
 
+  -- an element that passes is found, if none before it does
   pub find_there : (before : List X) (x : X) (behind : List X) → NonePasses test before → test x ≡ true
       → find test (before ++ x ∷ behind) ≡ Some x
   find_there [] x behind fails passes = rw passes refl
@@ -81,11 +83,13 @@ module _ {X : Type 0} (number : X → ℕ) (before : List X) (x : X) (behind : L
   long : length (before ++ x ∷ behind) ≡ length before + suc (length behind)
   long = length-append before (x ∷ behind)
 
+  -- those before an element have other numbers
   pub before_others : All (λ y. (number y == number x) ≡ false) before
   before_others k d within = ne_eqb _ _ (λ same.
       once k (length before) d within (omega (arith, long))
       (ap number (get_or_append_left before (x ∷ behind) d k within) ∙ same ∙ sym (ap number (here d))))
 
+  -- those after an element have other numbers
   pub behind_others : All (λ y. (number y == number x) ≡ false) behind
   behind_others k d within =
       let place : get_or (before ++ x ∷ behind) (length before + suc k) d ≡ get_or behind k d =

@@ -36,7 +36,7 @@ use Rattle.server_core.proofs.Going.{asks_then, nothing_said, plan_two, says_onl
 use Rattle.server_core.proofs.Seats.{IsAskedAt, asked_as, fails_for, found_is, gone_is, turned_is}
 use Rattle.server_core.proofs.Sounds.{waits_within}
 
--- the rank is told of a unit that another server has pinned to it
+-- the rank is told which unit another server has pinned to it
 abbrev pub told_passed : Rank → ℕ → UnitNote → Out → ServerModel → Served
 told_passed rank request note out s =
     made (counted s (by.Rank rank)) (with_letter out (posted s (to_rank rank (tells.Grant request note))))
@@ -50,7 +50,7 @@ pub record Answered (s : ServerModel) (out : Out) (from : Server) (rank : Rank) 
   -- a unit was pinned to it
   pub passes : (note : UnitNote) (q : Plan) → grant_rule s from rank request note ≡ Some q
       → told_passed rank request note out (released s rank) ≡ planned out q s
-  -- there was none, and calls are over
+  -- no unit was found, and calls are over
   pub ends : (end : End) → over s.kept ≡ Some end → (q : Plan) → none_rule s from rank request ≡ Some q
       → told_end rank request end out (released s rank) ≡ planned out q s
   -- or they are not
@@ -177,6 +177,7 @@ module _ (s : ServerModel) (out : Out) (from : Server) (p : Place) (at : IsAsked
         asks = asks_of best;
       }
 
+-- what the home does after the answer of the server that was asked
 pub answered : (s : ServerModel) (out : Out) (from : Server) (rank : Rank) (request : ℕ) → IsParked (parked_of s)
     → IsUnanswered s from rank request → Answered s out from rank request
 answered s out from rank request sound is =

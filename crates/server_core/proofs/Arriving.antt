@@ -96,6 +96,7 @@ all_config : (list : List Act) (s : ServerModel) → (all_done list s).config �
 all_config [] s = refl
 all_config (a ∷ list) s = all_config list (done a s) ∙ (done_named a s).0
 
+-- settling a unit keeps the configuration
 pub settled_config : (id : UnitId) (s t : ServerModel) (out mid : Out) → made t mid ≡ going_on out (settles id s) s → t.config ≡ s.config
 settled_config id s t out mid settled =
     ap (λ (x : Served). x.state.config) settled
@@ -132,6 +133,7 @@ module _ (s : ServerModel) (out : Out) (from : Server) (unit : Unit) (none : s.k
       ∙ sym (says_one a [] (owing t owed) mid x refl refl) in
       rw (now, letter) goes
 
+  -- the arrival of a unit is what the rule says
   pub arrives_goes : (last : ServerModel) (end : Out) → last ≡ counted t (by.Server from)
       → end ≡ with_letter mid (posted t (to_server from (tells.PushAck unit.id)))
       → (p : Plan) → unit_rule s from unit ≡ Some p → made last end ≡ planned out p s

@@ -56,6 +56,7 @@ module _ {i : Inside} (inside : IsInside i) where
       ap (λ config. let m : RingModel = record (i.ring) { config = config } in m) inside.ring_config
       ∙ ap (λ me. let m : RingModel = record (i.ring) { config = i.config; me = me } in m) inside.ring_me
 
+  -- the ranks that a check names are those that wait
   pub askers_parked : {asked : List Asker} → asked ≡ map wants i.parked.parked.waiting → AreParked i.ring.config i.ring.me asked
   askers_parked {asked} is =
       let P : Config → Server → Type 0 = λ config me. AreParked config me asked in

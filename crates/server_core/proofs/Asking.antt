@@ -44,11 +44,13 @@ module _ (before : List Waiting) (e : Waiting) (behind : List Waiting) (none : N
   own : is_of e.wish.rank e ≡ true
   own = eq-eqb e.wish.rank.0 e.wish.rank.0 refl
 
+  -- asking for the rank that waits is asking for its entry
   pub asks_here : (s : ServerModel) → s.kept.parked.waiting ≡ before ++ e ∷ behind
       → asks_on e.wish.rank s ≡ ask_next (record { before = before; behind = behind }) e.wish e.asked e.to_ask
   asks_here s stands =
       ap (λ l. ask_at (place_in (is_of e.wish.rank) l)) stands ∙ ap ask_at (found_there (is_of e.wish.rank) before e behind none own)
 
+  -- the entry of the rank that waits is found
   pub waits_here : (s : ServerModel) → s.kept.parked.waiting ≡ before ++ e ∷ behind → entry_of (parked_of s) e.wish.rank ≡ Some e
   waits_here s stands = ap (find (is_of e.wish.rank)) stands ∙ find_there (is_of e.wish.rank) before e behind none own
 
@@ -56,6 +58,7 @@ module _ (before : List Waiting) (e : Waiting) (behind : List Waiting) (none : N
 pub waits_by : (s : ServerModel) (rank : Rank) (e : Waiting) → entry_of (parked_of s) rank ≡ Some e → is_waiting s.kept rank ≡ true
 waits_by s rank e found = sym (found_any (is_of rank) s.kept.parked.waiting) ∙ ap (λ (o : Option Waiting). is_some o) found
 
+-- a rank that waits has an entry
 pub wants_nothing : {X : Type 0} (f : Waiting → X) (s : ServerModel) (rank : Rank) → None ≡ option_map f (entry_of (parked_of s) rank)
     → is_waiting s.kept rank ≡ true → ⊥
 wants_nothing f s rank none waits =
@@ -68,12 +71,14 @@ wants_nothing f s rank none waits =
 -- What is looked at again, where calls are over, and where they are not.
 
 module _ (best : Option Placed) (at : Around) (wish : Wish) (rest : List Server) where
+  -- a second look where calls are over tells the rank its end
   pub looks_over : (done exhausted : Bool) (end : End) → over_by done exhausted ≡ Some end
       → look_again done exhausted best at wish rest ≡ Tells at wish rest end ∷ []
   looks_over true exhausted end is = ap (λ e. Tells at wish rest e ∷ []) (some_is is)
   looks_over false true end is = ap (λ e. Tells at wish rest e ∷ []) (some_is is)
   looks_over false false end is = absurd (cc)
 
+  -- a second look where calls go on is one in a server at which they do
   pub looks_on : (done exhausted : Bool) → over_by done exhausted ≡ None
       → look_again done exhausted best at wish rest ≡ look_again false false best at wish rest
   looks_on true exhausted is = absurd (cc)

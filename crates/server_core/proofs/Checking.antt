@@ -48,17 +48,21 @@ counted_kept (x ∷ list) s = counted_kept list (counted s x.to)
 abbrev pub told_from : ServerModel → Message → ℕ → List ServerSaying
 told_from s message n = map (λ t. to_server t message) (map (behind s.config s.me) (range_with_len n (s.config.servers - n)))
 
+-- the message is said to the next server, and then to those after it
 pub told_next : (s : ServerModel) (message : Message) (n : ℕ) → n < s.config.servers
     → told_from s message n ≡ to_server (behind s.config s.me n) message ∷ told_from s message (n + 1)
 told_next s message n within = let more : s.config.servers - n ≡ suc (s.config.servers - (n + 1)) = omega arith in rw more refl
 
+-- after the last server nothing is said
 pub told_none : (s : ServerModel) (message : Message) → told_from s message s.config.servers ≡ []
 told_none s message = let none : s.config.servers - s.config.servers ≡ 0 = omega arith in rw none refl
 
+-- one letter said is one less to say
 pub said_one : (out : Out) (x : ServerSaying) (list : List ServerSaying) (s : ServerModel)
     → said (with_letter out (posted s x)) list (counted s x.to) ≡ said out (x ∷ list) s
 said_one out x list s = rw (append_assoc out.sends (posted s x ∷ []) (stamped (counted s x.to) list)) refl
 
+-- with nothing to say, nothing changes
 pub said_none : (out : Out) (s : ServerModel) → said out [] s ≡ made s out
 said_none out s = rw (append-nil out.sends) refl
 
@@ -85,6 +89,7 @@ exhausted_goes s t u out mid last others idle =
 
 module _ (a : Act) (step : RingStep) (s v : ServerModel) (out : Out) (state : v ≡ does a s) (told : says a s ≡ step_says step v)
     (entered : entries a s ≡ step_enters step) where
+  -- an act whose check step says this carries the step out
   pub act_steps : (more : List Act) → step_tells step v.kept.parked.waiting ≡ more → going_on out (a ∷ more) s ≡ stepped step out v
   act_steps more idle =
       let F : ServerModel → List ServerSaying → List Entry → List Act → Served = λ t list es l.
@@ -190,6 +195,7 @@ letters_few Exhausted s = s.config.servers_within.1
 letters_few Shutdown s = s.config.servers_within.1
 letters_few Ended s = omega arith
 
+-- there is room for the letters of a step and one more
 pub step_room : (step : RingStep) {s : ServerModel} (n : RingModel) {out : Out} → HasRoom s out 9
     → HasRoom (with_check s n) out (step_letters step (with_check s n) + 1)
 step_room step {s} n room =
@@ -197,12 +203,14 @@ step_room step {s} n room =
     let was = room.tells in
     record { tells = omega (arith, few, was); places = room.places }
 
+-- there is room for the letters of a step
 pub step_fits : (step : RingStep) {s : ServerModel} (n : RingModel) {out : Out} → HasRoom s out 9
     → HasRoom (with_check s n) out (step_letters step (with_check s n))
 step_fits step n room = room_less (step_room step n room) (omega arith)
 
 -- The row by which a token is expected.
 
+-- the number of a server
 abbrev pub number : ServerModel → ℕ
 number s = s.me.0
 
@@ -213,24 +221,28 @@ module _ (s : ServerModel) (t : Token) where
   abbrev Tests : Type 0
   Tests = HasComeBack (ring_at s) t ⊎ IsToTest (ring_at s) t
 
+  -- at server 0 a token of wave 1 comes back for the test
   pub comes_back : s.me.0 ≡ 0 → t.wave ≡ 1 → Row → Tests
   comes_back zeroth first (inl r) = absurd (r.other zeroth)
   comes_back zeroth first (inr (inl r)) = inl r
   comes_back zeroth first (inr (inr (inl r))) = inr r
   comes_back zeroth first (inr (inr (inr r))) = absurd (omega (arith, first, r.wave))
 
+  -- at server 0 a token of wave 2 comes for the verdict
   pub comes_last : s.me.0 ≡ 0 → (t.wave ≡ 1 → ⊥) → Row → IsToJudge (ring_at s) t
   comes_last zeroth later (inl r) = absurd (r.other zeroth)
   comes_last zeroth later (inr (inl r)) = absurd (later r.wave)
   comes_last zeroth later (inr (inr (inl r))) = absurd (r.other zeroth)
   comes_last zeroth later (inr (inr (inr r))) = r
 
+  -- at another server a token of wave 1 comes for its mark
   pub comes_first : (s.me.0 ≡ 0 → ⊥) → t.wave ≡ 1 → Row → IsToMark (ring_at s) t
   comes_first other first (inl r) = r
   comes_first other first (inr (inl r)) = absurd (other r.running.zeroth)
   comes_first other first (inr (inr (inl r))) = absurd (omega (arith, first, r.wave))
   comes_first other first (inr (inr (inr r))) = absurd (other r.running.zeroth)
 
+  -- at another server a token of wave 2 comes for the test
   pub comes_again : (s.me.0 ≡ 0 → ⊥) → (t.wave ≡ 1 → ⊥) → Row → Tests
   comes_again other later (inl r) = absurd (later r.wave)
   comes_again other later (inr (inl r)) = inl r
@@ -262,18 +274,22 @@ module _ (s : ServerModel) (out : Out) (from : Server) (t : Token) (x : Served) 
   abbrev Goes : Type 0
   Goes = (p : Plan) → token_rule s from t ≡ Some p → x ≡ planned out p s
 
+  -- at server 0 a token of wave 1 is handled by its rule
   pub back_goes : s.me.0 ≡ 0 → t.wave ≡ 1 → x ≡ going_on out (tests_now s from t ∷ []) s → Goes
   back_goes zeroth first goes p rule =
       subst (λ q. x ≡ planned out q s) (some_is (visit_is true true (eq-eqb s.me.0 0 zeroth) (eq-eqb t.wave 1 first) p rule)) goes
 
+  -- at server 0 a token of wave 2 is handled by its rule
   pub last_goes : s.me.0 ≡ 0 → (t.wave ≡ 1 → ⊥)
       → ((p : Plan) → verdict s.kept.exhausted t.asked from t ≡ Some p → x ≡ planned out p s) → Goes
   last_goes zeroth later goes p rule = goes p (visit_is true false (eq-eqb s.me.0 0 zeroth) (ne_eqb t.wave 1 later) p rule)
 
+  -- at another server a token of wave 1 is handled by its rule
   pub first_goes : (s.me.0 ≡ 0 → ⊥) → t.wave ≡ 1 → x ≡ going_on out (marks (is_quiet s) from t ∷ []) s → Goes
   first_goes other first goes p rule =
       subst (λ q. x ≡ planned out q s) (some_is (visit_is false true (ne_eqb s.me.0 0 other) (eq-eqb t.wave 1 first) p rule)) goes
 
+  -- at another server a token of wave 2 is handled by its rule
   pub again_goes : (s.me.0 ≡ 0 → ⊥) → (t.wave ≡ 1 → ⊥) → x ≡ going_on out (tests_now s from t ∷ []) s → Goes
   again_goes other later goes p rule =
       subst (λ q. x ≡ planned out q s) (some_is (visit_is false false (ne_eqb s.me.0 0 other) (ne_eqb t.wave 1 later) p rule)) goes
@@ -316,11 +332,13 @@ stays_room {s} {t} {u} {out} is room same sent clock =
 
 -- No visit changes how many checks were started.
 
+-- a mark leaves the number of the check
 pub marked_check : (m : RingModel) (t : Token) (quiet : Bool) (activity : ℕ) (parked : List Asker)
     → (visited1 m t quiet activity parked).ring.ring.check ≡ m.ring.check
 marked_check m t true activity parked = refl
 marked_check m t false activity parked = refl
 
+-- a verdict leaves the number of the check
 pub judged_check : (m : RingModel) (t : Token) (o : Option Why) → (judged m t o).ring.ring.check ≡ m.ring.check
 judged_check m t None = refl
 judged_check m t (Some why) = by_test (m.me.0 == 0)

@@ -187,11 +187,13 @@ close_goes s out from request batch accepted x goes = by_part (part_in s.kept.pa
 -- Acts that say one thing at most.
 
 module _ (a : Act) (more : List Act) (s : ServerModel) (out : Out) where
+  -- an act that says and enters nothing only changes the server
   pub silent : says a s ≡ [] → entries a s ≡ [] → going_on out (a ∷ more) s ≡ going_on out more (does a s)
   silent nothing none =
       let one : with_act (made s out) a ≡ made (does a s) out = rw (nothing, none, append-nil out.sends, append-nil out.entries) refl in
       followed_more (made s out) a more ∙ ap (λ x. followed x more) one
 
+  -- an act that says one thing sends that letter
   pub says_one : (x : ServerSaying) → says a s ≡ x ∷ [] → entries a s ≡ []
       → going_on out (a ∷ more) s ≡ going_on (with_letter out (posted (does a s) x)) more (counted (does a s) x.to)
   says_one x one none =
@@ -199,6 +201,7 @@ module _ (a : Act) (more : List Act) (s : ServerModel) (out : Out) where
       let act : with_act (made s out) a ≡ made (counted (does a s) x.to) letter = rw (one, none, append-nil out.entries) refl in
       followed_more (made s out) a more ∙ ap (λ y. followed y more) act
 
+  -- an act that says one thing and enters one sends that letter and entry
   pub answers_one : (x : ServerSaying) (e : Entry) → says a s ≡ x ∷ [] → entries a s ≡ e ∷ []
       → going_on out (a ∷ more) s ≡ going_on (with_answer out (posted (does a s) x) e) more (counted (does a s) x.to)
   answers_one x e one entry =
@@ -208,11 +211,13 @@ module _ (a : Act) (more : List Act) (s : ServerModel) (out : Out) where
 
 -- a plan that has no decider
 module _ (a : Act) (s : ServerModel) (out : Out) where
+  -- a plan of one act that says and enters one thing is that letter and entry
   pub answers_only : (x : ServerSaying) (e : Entry) → says a s ≡ x ∷ [] → entries a s ≡ e ∷ []
       → made (counted (does a s) x.to) (with_answer out (posted (does a s) x) e) ≡ planned out (record { first = a; follow = [] }) s
   answers_only x e one entry =
       goes_nowhere (with_answer out (posted (does a s) x) e) (counted (does a s) x.to) ∙ sym (answers_one a [] s out x e one entry)
 
+  -- a plan of one act that says one thing is that letter
   pub says_only : (x : ServerSaying) → says a s ≡ x ∷ [] → entries a s ≡ []
       → made (counted (does a s) x.to) (with_letter out (posted (does a s) x)) ≡ planned out (record { first = a; follow = [] }) s
   says_only x one none =
@@ -220,9 +225,11 @@ module _ (a : Act) (s : ServerModel) (out : Out) where
 
 -- an act that says nothing, alone and before one by which a server is asked
 module _ (a : Act) (s : ServerModel) (out : Out) (nothing : says a s ≡ []) (none : entries a s ≡ []) where
+  -- an act that says and enters nothing leaves what was sent
   pub nothing_said : made (does a s) out ≡ going_on out (a ∷ []) s
   nothing_said = goes_nowhere out (does a s) ∙ sym (silent a [] s out nothing none)
 
+  -- an act that says nothing, and then an ask, sends that ask
   pub asks_then : (at : Around) (wish : Wish) (to : Server) (rest : List Server)
       → told_ask to wish.rank wish.request wish.types out (does (Asks_on at wish to rest) (does a s))
       ≡ going_on out (a ∷ Asks_on at wish to rest ∷ []) s
@@ -241,9 +248,11 @@ room_left s queue parked out n k fewer room =
     let was = room.tells in
     record { tells = omega (arith, fewer, was); places = room.places }
 
+-- room for more is room for less
 pub room_less : {s : ServerModel} {out : Out} {n k : ℕ} → HasRoom s out n → k ≤ n → HasRoom s out k
 room_less room fewer = let was = room.tells in record { tells = omega (arith, fewer, was); places = room.places }
 
+-- room at a server is room at an equal one
 pub room_as : {s t : ServerModel} {out : Out} {n : ℕ} → t ≡ s → HasRoom s out n → HasRoom t out n
 room_as {s} {t} {out} {n} same room = subst (λ u. HasRoom u out n) (sym same) room
 
@@ -254,11 +263,13 @@ fewer_kept test xs =
     omega (arith, both)
 
 module _ {s : ServerModel} {out : Out} {more : ℕ} where
+  -- a release leaves room
   pub released_room : (rank : Rank) → HasRoom s out more → HasRoom (released s rank) out more
   released_room rank room =
       let fewer = fewer_kept (is_of rank) s.kept.parked.waiting in
       room_left s s.kept.queue (gone (parked_of s) rank).parked out more more (omega (arith, fewer)) room
 
+  -- a look leaves room
   pub looked_room : (rank : Rank) (types : Option (List WorkType)) → HasRoom s out more → HasRoom (looked s rank types) out more
   looked_room rank types = by_best (best_for s.kept.queue rank types)
     where
@@ -270,11 +281,13 @@ module _ {s : ServerModel} {out : Out} {more : ℕ} where
           let same = length-map s.kept.parked.waiting (turned (is_of rank) asks_next) in
           room_left s s.kept.queue (after_none (parked_of s) rank None).parked out more more (omega (arith, same)) room
 
+  -- a hint that is heard leaves room
   pub heard_room : (rank : Rank) (request : ℕ) (from : Server) → HasRoom s out more → HasRoom (heard s rank request from) out more
   heard_room rank request from room =
       let same = length-map s.kept.parked.waiting (turned (is_since rank request) (hears_of s.config s.me from)) in
       room_left s s.kept.queue (hinted (parked_of s) rank request from).parked out more more (omega (arith, same)) room
 
+  -- a seek takes room for one letter
   pub sought_room : (wish : Wish) → HasRoom s out (more + 1) → HasRoom (sought s wish) out more
   sought_room wish = by_best (best_for s.kept.queue wish.rank wish.types)
     where
@@ -285,6 +298,7 @@ module _ {s : ServerModel} {out : Out} {more : ℕ} where
           let one = length-append s.kept.parked.waiting (asking wish (others s.config s.me) ∷ []) in
           room_left s s.kept.queue (reserved (parked_of s) wish None).parked out (more + 1) more (omega (arith, one)) room
 
+  -- an ask takes room for one letter
   pub asked_room : (wish : Wish) → HasRoom s out (more + 1) → HasRoom (asked s wish) out more
   asked_room wish = by_best (offered s.kept wish)
     where

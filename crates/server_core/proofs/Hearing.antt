@@ -134,6 +134,7 @@ module _ (s : ServerModel) (out : Out) (from : Server) (sound : IsParked (parked
               waits = λ busy. let no = sym busy ∙ idle_as ∙ ap (λ (k : Option Server). is_none k) asked in absurd (cc);
             }
 
+  -- what the home does after a hint
   pub hears : (rank : Rank) (request : ℕ) → IsHere s.config s.me rank → Heard s out from rank request
   hears rank request here = by_place (place_in (is_since rank request) s.kept.parked.waiting) refl
     where

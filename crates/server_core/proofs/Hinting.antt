@@ -59,6 +59,7 @@ module _ (test : Wish → Bool) where
 
 -- All hints that a unit makes.
 
+-- each rank has one wish at most
 abbrev pub AreOnce : List Wish → Type 0
 AreOnce wishes = AllPairs (λ (v w : Wish). v.rank.0 ≢ w.rank.0) wishes
 
@@ -135,6 +136,7 @@ module _ (unit : Unit) (wishes : List Wish) (once : AreOnce wishes) where
       All-behind [] ys none = none
       All-behind (v ∷ xs) ys none = All-behind xs ys (All-tail (λ z. first z ≡ false) v (xs ++ ys) none)
 
+  -- the next wish to hint is the first that the unit is for
   pub next_hint : (w : Wish) → hints_next unit.kind unit.target wishes ≡ Some w → HintsNext unit wishes w
   next_hint w is = by_named (find first wishes) refl is
     where
@@ -142,6 +144,7 @@ module _ (unit : Unit) (wishes : List Wish) (once : AreOnce wishes) where
       by_named (Some v) found is = named_next w (found ∙ is)
       by_named None found is = suited_next w (find_none first wishes found) is
 
+  -- if no wish is for the unit, nothing is hinted
   pub no_hint : hints_next unit.kind unit.target wishes ≡ None → hint_all unit wishes ≡ []
   no_hint is = by_named (find first wishes) refl is
     where
@@ -155,6 +158,7 @@ module _ (unit : Unit) (wishes : List Wish) (once : AreOnce wishes) where
 
 -- The home of the next rank is told, and then the others are.
 
+-- the call that is named is that of a wish
 pub call_told : (o : Option Wish) (rank : Rank) (request : ℕ) → Some (rank, request) ≡ option_map call_of o
     → (w : Wish) × (o ≡ Some w) × (call_of w ≡ (rank, request))
 call_told None rank request told = absurd (cc)
@@ -210,6 +214,7 @@ module _ (s : ServerModel) (sound : IsParked (parked_of s)) (kind : WorkType) (t
             told_hint unit s out w (next_hint unit s.kept.parked.wishes sound.wished_once w (own unit same_kind same_target ∙ is));
       }
 
+  -- what is known of the hint that is said next
   pub hint_told : {u : ServerModel} {rank : Rank} {request : ℕ} → u ≡ unwished_next kind target s
       → Some (rank, request) ≡ option_map call_of named
       → HintTold s kind target u rank request
@@ -218,7 +223,7 @@ module _ (s : ServerModel) (sound : IsParked (parked_of s)) (kind : WorkType) (t
       let now = subst (λ (k : Rank × ℕ). HintTold s kind target (without (Some w.0)) k.0 k.1) w.2 (hints w.0 w.1) in
       subst (λ v. HintTold s kind target v rank request) (sym (made ∙ ap without w.1)) now
 
-  -- or there is none
+  -- or there is no such wish
   pub no_more : {u : ServerModel} → u ≡ unwished_next kind target s → None ≡ option_map call_of named → (unit : Unit) → unit.kind ≡ kind
       → unit.target ≡ target → hint_all unit u.kept.parked.wishes ≡ []
   no_more made told unit same_kind same_target =

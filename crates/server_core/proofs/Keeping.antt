@@ -96,7 +96,7 @@ module _ (s : ServerModel) (out end : Out) (t : ServerModel) (from : Rank) (requ
       false_from_ne_true _ (λ is. within (ltb-true q.limit (charge_of q + length common) is)) in
       rw (after, told, kept, charged, working, room) refl
 
-  -- where there is none
+  -- without room for it
   pub refuses_now : {queue : Queue} {parts : Store} {charge : ℕ} → Exceeds s.kept.queue (length common)
       → charge ≡ charge_of s.kept.queue
       → parts ≡ s.kept.parts → queue ≡ s.kept.queue

@@ -1,4 +1,4 @@
--- The bytes of the parts that are kept, all together, and what is told of a part.
+-- The bytes of the parts that are kept, all together, and what is said of a part.
 use Rattle.std.proofs.Common.{◌≡◌, ◌≤◌, ◌<◌, ◌+◌, ◌↔◌, ◌∙◌, ℕ, Bool, true, false, cond, not, [], ◌∷◌, length, Option, None, Some, IsTrue}
 use Rattle.std.proofs.Common.{refl, sym, ap, subst, arith}
 use Rattle.std.specs.Prelude.{if◌then◌else◌, nat_le, nat_lt}
@@ -105,7 +105,7 @@ changed_within f keeps store batch q charged = by_due (frees f store batch)
     by_due true = let left = left_within store batch in omega (arith, left, charged)
     by_due false = rw (turned_same f keeps store batch) charged
 
--- What is told of a part is so of the one that is there.
+-- What is said of a part is so of the one that is there.
 
 told_there : (store : Store) (batch : BatchId) (n : ℕ) (a : Option ℕ) → option_map counts (part_in store batch) ≡ Some (n, a)
     → (p : Part) × (part_in store batch ≡ Some p) × (p.fetches ≡ n) × (p.accepted ≡ a)
@@ -123,6 +123,7 @@ module _ (store : Store) (batch : BatchId) (common : ℕ) (charged : bytes_in st
       let few = part_within store batch p here in
       record { part = p; here = here; charged = omega (arith, few, charged); holds = holds }
 
+  -- a part that is open can be closed if it has been fetched at most as often as units were accepted
   pub close_told : (accepted : ℕ) → option_map counts (part_in store batch) ≡ Some (n, None)
       → IsTrue (nat_le n accepted) ↔ Keeps store batch common (CanClose accepted)
   close_told accepted told =
@@ -134,6 +135,7 @@ module _ (store : Store) (batch : BatchId) (common : ℕ) (charged : bytes_in st
             le-leb n accepted (subst (λ k. k ≤ accepted) p.2 few),
       )
 
+  -- a closed part can be fetched if its fetches are fewer than its units
   pub share_told : (accepted : ℕ) → option_map counts (part_in store batch) ≡ Some (n, Some accepted)
       → IsTrue (nat_lt n accepted) ↔ Keeps store batch common CanFetch
   share_told accepted told =
@@ -147,6 +149,7 @@ module _ (store : Store) (batch : BatchId) (common : ℕ) (charged : bytes_in st
             lt-ltb n accepted (subst (λ k. k < accepted) p.2 few),
       )
 
+  -- a part that is open can be fetched
   pub open_told : option_map counts (part_in store batch) ≡ Some (n, None) → IsTrue true ↔ Keeps store batch common CanFetch
   open_told told =
       let p = told_there store batch n None told in

@@ -33,6 +33,7 @@ use Rattle.server_core.proofs.Sounds.{IsPinned}
 abbrev pub moved : ServerModel → Queue → Pushing → ServerModel
 moved s queue pushing = record s { kept = record s.kept { queue = queue; pushing = pushing } }
 
+-- room stays where only the queue and the pushes change
 pub room_moved : {s : ServerModel} {out : Out} {n : ℕ} (queue : Queue) (pushing : Pushing) → HasRoom s out n
     → HasRoom (moved s queue pushing) out n
 room_moved queue pushing room = record { tells = room.tells; places = room.places }
@@ -66,6 +67,7 @@ moved_sound s queue pushing sound arrivals same = record {
   clock = sound.clock;
 }
 
+-- a server is sound with another queue of its pins and another push
 pub moved_inside : {i : Inside} {n : PushModel} {queue after : Queue} (pushing : Pushing) → IsInside i → n ≡ with_pushing i.pushes pushing
     → queue ≡ after → IsPinned i.queue after → IsInside (record i { queue = queue; pushes = n })
 moved_inside {i} {n} {queue} pushing inside is now pins = record {
@@ -90,6 +92,7 @@ module _ (s : ServerModel) (out : Out) (from : Server) (id : UnitId) (n : ℕ)
       ∙ ap (λ t. cond t (plan (sends_on from id n (find (is_free_as id) s.kept.queue.units)) []) None) (push_from from id n false)
       ∙ ap (λ q. plan (sends_on from id n q) []) found
 
+  -- a free unit for which there is room is sent as the rule says
   pub sends_goes : (unit : Unit) {queue : Queue} {pushing : Pushing} → HasFree id s.kept.queue.units
       → All (λ p. id_of p ≡ id → unit ≡ p.unit) s.kept.queue.units → queue ≡ without s.kept.queue id
       → pushing ≡ with_push s.kept.pushing (Some (has_sent from id n)) → {t : ServerModel} {last : Out}
@@ -114,6 +117,7 @@ module _ (s : ServerModel) (out : Out) (from : Server) (id : UnitId) (n : ℕ)
       let rule = yes_is (Some u.0) u.1 ∙ ap (λ w. plan (Sends_unit from n w) []) (sym same) in
       subst (λ r. made t last ≡ planned out r s) (some_is (sym rule ∙ is)) (rw (now, letter) goes)
 
+  -- a unit that is no longer free is cancelled as the rule says
   pub cancels_goes : {queue : Queue} {pushing : Pushing} → (HasFree id s.kept.queue.units → ⊥) → queue ≡ s.kept.queue
       → pushing ≡ with_push s.kept.pushing (Some (has_sent from id n)) → {t : ServerModel} {last : Out}
       → t ≡ counted (moved s queue pushing) (by.Server from)
@@ -136,6 +140,7 @@ module _ (s : ServerModel) (out : Out) (from : Server) (id : UnitId) (n : ℕ) (
   abbrev now : ServerModel
   now = moved s queue s.kept.pushing
 
+  -- a query for which there is room is promised as the rule says
   pub promises_goes : IsPromise s.kept.queue id n true queue
       → last ≡ with_answer out (posted now (to_server from (tells.PushYes id))) (enters.Promised s.me id n)
       → (p : Plan) → query_rule s from id n ≡ Some p → made t last ≡ planned out p s
@@ -151,6 +156,7 @@ module _ (s : ServerModel) (out : Out) (from : Server) (id : UnitId) (n : ℕ) (
       plan_if (expects_query s.kept id) (answer_query (exceeds s.kept.queue n) from id n) [] s out (made t last)
       (rw (state, letter) (answers_only a s out x e refl refl) ∙ ap Q (sym fits))
 
+  -- a query for which there is no room is refused as the rule says
   pub refuses_goes : IsPromise s.kept.queue id n false queue → last ≡ with_letter out (posted now (to_server from (tells.PushNo id)))
       → (p : Plan) → query_rule s from id n ≡ Some p → made t last ≡ planned out p s
   refuses_goes full told =

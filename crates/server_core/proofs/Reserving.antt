@@ -112,6 +112,7 @@ module _ (s : ServerModel) (out : Out) (wish : Wish) (runs : IsHome s wish.rank 
       waits_here s.kept.parked.waiting (asking wish (others s.config s.me)) [] none
       (with_parked s s.kept.queue (reserved (parked_of s) wish None).parked) refl
 
+  -- what a reserve comes to is what the rule says
   pub reserves : Reserves s out wish
   reserves = record {
     ends = ends_here;

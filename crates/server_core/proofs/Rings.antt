@@ -1,4 +1,4 @@
--- Among the servers behind this one each stands once.
+-- Each server is once among those after this one.
 use Rattle.std.proofs.Common.{◌≡◌, ◌≢◌, ◌<◌, ◌≤◌, ◌+◌, ◌-◌, ◌*◌, ◌%◌, ◌==◌, ◌⊎◌, inl, inr, ℕ, zero, suc, Bool, true, false, ◌||◌, [], ◌∷◌}
 use Rattle.std.proofs.Common.{filter, map, refl, sym, ap, ◌∙◌, arith}
 use Rattle.std.specs.List.{range_with_len}
@@ -10,7 +10,7 @@ use Rattle.adlb_unit.specs.declared.names.Server.{Server}
 use Rattle.reserve_path.specs.Calls.{with_server}
 use Rattle.reserve_path.specs.Parked.{IsOther}
 
--- the number of the server that is so many places behind this one
+-- the number of the server `k` places after this one
 behind_is : (config : Config) (me : Server) (k : ℕ) → me.0 < config.servers → k < config.servers
     → (((me.0 + k) < config.servers) × ((behind config me k).0 ≡ me.0 + k))
     ⊎ ((config.servers ≤ (me.0 + k)) × ((behind config me k).0 ≡ me.0 + k - config.servers))
@@ -46,7 +46,7 @@ behind_once config me j k there first second same = by_both (behind_is config me
     by_both (inr a) (inl b) = omega (arith, a.0, a.1, b.0, b.1, same, first, second, there)
     by_both (inr a) (inr b) = omega (arith, a.0, b.0, a.1, b.1, same)
 
--- another server stands at some place
+-- another server is at some place
 place_behind : (config : Config) (me from : Server) → me.0 < config.servers → IsOther config me from
     → (k : ℕ) × (1 ≤ k) × (k < config.servers) × ((behind config me k).0 ≡ from.0)
 place_behind config me from there other = by_order (cases_lt me.0 from.0)

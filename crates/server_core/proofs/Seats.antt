@@ -31,6 +31,7 @@ pub record IsAlone (rank : Rank) (waiting : List Waiting) (p : Place) : Type 0 w
   pub before : NonePasses (is_of rank) p.at.before
   pub behind : NonePasses (is_of rank) p.at.behind
 
+-- ranks with equal numbers are equal
 pub same_rank : (a b : Rank) → a.0 ≡ b.0 → a ≡ b
 same_rank a b same = ap (λ n. let r : Rank = record { 0 = n } in r) same
 
@@ -49,20 +50,21 @@ alone_where rank waiting before e behind once stands own =
       behind = subst (λ n. All (F n) behind) is (behind_others number before e behind apart);
     }
 
--- so who is found by a test that tells of the rank
+-- so is who is found by a test that passes this rank alone
 pub alone_at : (rank : Rank) (test : Waiting → Bool) → ((e : Waiting) → test e ≡ true → is_of rank e ≡ true) → (waiting : List Waiting)
     → AllPairs AreApart waiting → (p : Place) → place_in test waiting ≡ Some p → IsAlone rank waiting p × (test p.here ≡ true)
 alone_at rank test tells waiting once p found =
     let is : IsPlace test waiting p = subst (λ o. IfSome o (IsPlace test waiting)) found (place_found test waiting) in
     (alone_where rank waiting p.at.before p.here p.at.behind once is.stands (tells p.here is.passes), is.passes)
 
+-- the entry that is found for a rank is its only one
 pub alone_found : (rank : Rank) (waiting : List Waiting) → AllPairs AreApart waiting → (e : Waiting) → find (is_of rank) waiting ≡ Some e
     → (p : Place) × IsAlone rank waiting p × (p.here ≡ e)
 alone_found rank waiting once e found =
     let at = found_split (is_of rank) waiting e found in
     (place at.before e at.behind, alone_where rank waiting at.before e at.behind once at.stands at.passes, refl)
 
--- a test that tells of the rank fails for others
+-- a test that passes this rank alone fails for others
 pub fails_for : (rank : Rank) (test : Waiting → Bool) → ((e : Waiting) → is_of rank e ≡ false → test e ≡ false) → (xs : List Waiting)
     → NonePasses (is_of rank) xs → NonePasses test xs
 fails_for rank test tells xs none =
@@ -70,11 +72,13 @@ fails_for rank test tells xs none =
     All-weaker F (λ e. test e ≡ false) tells xs none
 
 module _ (rank : Rank) (waiting : List Waiting) (p : Place) (alone : IsAlone rank waiting p) where
+  -- without the rank, those before and after it are left
   pub gone_is : filter (λ e. not (is_of rank e)) waiting ≡ p.at.before ++ p.at.behind
   gone_is =
       ap (filter (λ e. not (is_of rank e))) alone.stands
       ∙ gone_one (is_of rank) p.at.before p.here p.at.behind alone.before alone.own alone.behind
 
+  -- a change of the rank's entry leaves those before and after it
   pub turned_is : (test : Waiting → Bool) (f : Waiting → Waiting) → ((e : Waiting) → is_of rank e ≡ false → test e ≡ false)
       → test p.here ≡ true → map (turned test f) waiting ≡ p.at.before ++ f p.here ∷ p.at.behind
   turned_is test f tells passes =
@@ -83,22 +87,27 @@ module _ (rank : Rank) (waiting : List Waiting) (p : Place) (alone : IsAlone ran
       ap (map (turned test f)) alone.stands ∙ map-append (turned test f) p.at.before (p.here ∷ p.at.behind)
       ∙ rw (first, last, passes) refl
 
+  -- the entry found for the rank is its own
   pub found_is : find (is_of rank) waiting ≡ Some p.here
   found_is = ap (find (is_of rank)) alone.stands ∙ find_there (is_of rank) p.at.before p.here p.at.behind alone.before alone.own
 
+  -- whether the rank's entry passes a test
   pub any_is : (q : Waiting → Bool) → list_any (λ e. is_of rank e && q e) waiting ≡ q p.here
   any_is q =
       ap (list_any (λ e. is_of rank e && q e)) alone.stands
       ∙ any_one (is_of rank) q p.at.before p.here p.at.behind alone.before alone.own alone.behind
 
+  -- one more rank waits than those before and after it
   pub one_more : length waiting ≡ suc (length (p.at.before ++ p.at.behind))
   one_more = ap (λ (l : List Waiting). length l) alone.stands ∙ one_fewer p.at.before p.here p.at.behind
 
--- What is told of a rank.
+-- What is said of a rank.
 
+-- what is said of a rank that waits: its request, and who is asked for it
 abbrev pub told_of : List Waiting → Rank → Option (ℕ × Option Server)
 told_of waiting rank = option_map request_of (find (is_of rank) waiting)
 
+-- something is said of a rank exactly if it waits
 pub waits_told : (waiting : List Waiting) (rank : Rank) → is_some (told_of waiting rank) ≡ list_any (is_of rank) waiting
 waits_told waiting rank = by_found (find (is_of rank) waiting) ∙ found_any (is_of rank) waiting
   where
@@ -111,6 +120,7 @@ abbrev pub idle_if : Option (ℕ × Option Server) → Bool
 idle_if None = false
 idle_if (Some told) = is_none told.1
 
+-- a rank waits idle exactly if what is said of it says so
 pub idle_told : (waiting : List Waiting) → AllPairs AreApart waiting → (rank : Rank)
     → list_any (λ e. is_of rank e && is_idle e) waiting ≡ idle_if (told_of waiting rank)
 idle_told waiting once rank = by_found (find (is_of rank) waiting) refl
@@ -133,6 +143,7 @@ pub record IsAskedFor (s : ServerModel) (from : Server) (rank : Rank) (request :
 tells_rank : (from : Server) (rank : Rank) (request : ℕ) (e : Waiting) → has_asked from rank request e ≡ true → is_of rank e ≡ true
 tells_rank from rank request e is = (and_parts _ _ (and_parts (is_since rank request e) _ is).0).0
 
+-- a rank for which a server was asked waits, and is asked for there
 pub asked_for : (s : ServerModel) → AllPairs AreApart s.kept.parked.waiting → (from : Server) (rank : Rank) (request : ℕ)
     → IsUnanswered s from rank request → (p : Place) × IsAskedFor s from rank request p
 asked_for s once from rank request is =
@@ -170,6 +181,7 @@ asked_as s once from rank request is P each =
     let own : F rank request = subst (λ r. F r request) p.1.rank_is (subst (F p.0.here.wish.rank) p.1.request_is here) in
     own p.1.found p.1.alone
 
+-- what is said of a rank says that this server owes the answer exactly if it does
 pub unanswered_told : (s : ServerModel) → AllPairs AreApart s.kept.parked.waiting → (from : Server) (rank : Rank) (request : ℕ)
     → (told_of s.kept.parked.waiting rank ≡ Some (request, Some from)) ↔ IsUnanswered s from rank request
 unanswered_told s once from rank request = (forth (find (is_of rank) s.kept.parked.waiting) refl, back)
@@ -201,18 +213,22 @@ module _ (s : ServerModel) (once : AllPairs AreApart s.kept.parked.waiting) (fro
         λ both. is.0 (told ∙ ap (λ n. Some (n, asked)) both.0 ∙ ap (λ a. Some (request, a)) both.1),
       )
 
+  -- with its request, the server owes the answer exactly if it is the one that was asked
   pub unanswered_then : since ≡ request → (b : Bool) → IsTrue b ↔ (asked ≡ Some from) → IsTrue b ↔ IsUnanswered s from rank request
   unanswered_then same b is = (λ yes. says.1 (same, is.0 yes), λ unanswered. is.1 (says.0 unanswered).1)
 
+  -- with another request, the server owes no answer
   pub unanswered_else : (since ≡ request → ⊥) → IsTrue (since == request) ↔ IsUnanswered s from rank request
   unanswered_else differs = (λ yes. absurd (differs (eqb-true since request yes)), λ unanswered. absurd (differs (says.0 unanswered).0))
 
+-- for a rank that does not wait no server owes an answer
 pub unanswered_none : (s : ServerModel) → AllPairs AreApart s.kept.parked.waiting → (from : Server) (rank : Rank) (request : ℕ)
     → told_of s.kept.parked.waiting rank ≡ None → IsTrue false ↔ IsUnanswered s from rank request
 unanswered_none s once from rank request none =
     let is = unanswered_told s once from rank request in
     (λ yes. absurd (cc), λ unanswered. let told = sym none ∙ is.1 unanswered in absurd (cc))
 
+-- a test that is the reverse of another says that there is nothing
 pub none_tells : {X : Type 0} (o : Option X) (b : Bool) → is_some o ≡ not b → b ≡ is_none o
 none_tells None true is = refl
 none_tells None false is = absurd (cc)

@@ -49,17 +49,20 @@ here_first : (a b : Option Place) → here_of (or_else a b) ≡ or_else (here_of
 here_first None b = refl
 here_first (Some p) b = refl
 
+-- the entry of the taker is the first that the unit suits
 pub taker_here : (unit : Unit) (waiting : List Waiting) → here_of (taker unit waiting) ≡ taker_at unit.kind unit.target waiting
 taker_here unit waiting =
     here_first (place_in (is_idle_first unit) waiting) (place_in (is_idle_for unit) waiting)
     ∙ ap (λ o. or_else o (here_of (place_in (is_idle_for unit) waiting))) (here_found (is_idle_first unit) waiting)
     ∙ ap (λ o. or_else (find (is_idle_first unit) waiting) o) (here_found (is_idle_for unit) waiting)
 
--- What is told of the free unit.
+-- What is said of the free unit.
 
+-- a unit's work type and target
 abbrev pub kind_and_target : Placed → WorkType × Target
 kind_and_target p = (p.unit.kind, p.unit.target)
 
+-- the type and target that are named are those of a free unit
 pub told_free : (o : Option Placed) {kind : WorkType} {target : Target}
     → (let said : Option (WorkType × Target) = Some (kind, target) in said ≡ option_map kind_and_target o)
     → (p : Placed) × (o ≡ Some p) × (p.unit.kind ≡ kind) × (p.unit.target ≡ target)
@@ -68,6 +71,7 @@ told_free (Some p) told =
     let is = some_is (sym told) in
     (p, refl, ap (λ (f : WorkType × Target). f.0) is, ap (λ (f : WorkType × Target). f.1) is)
 
+-- if none are named, there is no such unit
 pub told_unfree : (o : Option Placed) → None ≡ option_map kind_and_target o → o ≡ None
 told_unfree None told = refl
 told_unfree (Some p) told = absurd (cc)
@@ -118,6 +122,7 @@ module _ (s : ServerModel) (out : Out) (id : UnitId) (p : Placed) (found : find 
               ∙ ap (λ l. going_on out l s) (sym (settled (Some q) is));
         }
 
+  -- the rank that takes the unit is granted it as the rule says
   pub one_takes : {rank : Rank} {request : ℕ} {note : UnitNote}
       → Some (rank, request, note) ≡ option_map (granted s.me p.unit) (taker_of p.unit (parked_of s)) → TakenBy s out id p rank request note
   one_takes {rank} {request} {note} told =
@@ -130,6 +135,7 @@ module _ (s : ServerModel) (out : Out) (id : UnitId) (p : Placed) (found : find 
       by_place (Some q) is told =
           subst (λ (t : Rank × ℕ × UnitNote). TakenBy s out id p t.0 t.1 t.2) (some_is (sym told)) (taken_by q is)
 
+  -- if no rank takes the unit, it stays free as the rule says
   pub none_takes : None ≡ option_map (granted s.me p.unit) (taker_of p.unit (parked_of s)) → TakenByNone s id p
   none_takes told =
       by_place (taker p.unit s.kept.parked.waiting) refl

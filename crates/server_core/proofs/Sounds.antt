@@ -35,20 +35,25 @@ stays : (m : ParkedModel) (parked : Parked) → IsParked (record m { parked = pa
 stays m parked sound = record { sound = sound; config = refl; me = refl }
 
 module _ {m : ParkedModel} (sound : IsParked m) where
+  -- those that wait stay sound as they are
   pub same_stays : Stays m m
   same_stays = stays m m.parked sound
 
+  -- those that wait stay sound without one rank
   pub gone_stays : (rank : Rank) → Stays m (gone m rank)
   gone_stays rank = stays m (gone m rank).parked (gone_sound m rank sound)
 
+  -- those that wait stay sound without the one that was found, if any
   pub gone_if_stays : (o : Option Waiting) → Stays m (gone_if m o)
   gone_if_stays None = same_stays
   gone_if_stays (Some e) = gone_stays e.wish.rank
 
+  -- those that wait stay sound after a wish is forgotten, if there is one
   pub forgotten_if_stays : (o : Option Wish) → Stays m (forgotten_if m o)
   forgotten_if_stays None = same_stays
   forgotten_if_stays (Some w) = stays m (forgotten_if m (Some w)).parked (forgotten_sound m w.rank sound)
 
+  -- those that wait stay sound after a reserve
   pub reserved_stays : (wish : Wish) → IsHere m.config m.me wish.rank → is_parked m wish.rank ≡ false → (o : Option Placed)
       → Stays m (reserved m wish o)
   reserved_stays wish here new (Some p) = same_stays
@@ -56,18 +61,21 @@ module _ {m : ParkedModel} (sound : IsParked m) where
       let waits = parks_waits m.config m.me wish sound.there here in
       stays m (reserved m wish None).parked (parked_sound m (asking wish (others m.config m.me)) waits new sound)
 
+  -- those that wait stay sound after a rank was refused
   pub none_stays : (rank : Rank) (o : Option Placed) → Stays m (after_none m rank o)
   none_stays rank (Some p) = gone_stays rank
   none_stays rank None =
       stays m (after_none m rank None).parked
       (turned_sound m (is_of rank) asks_next sound (next_waits m.config m.me) (λ e. refl))
 
+  -- those that wait stay sound after a hint
   pub hinted_stays : (rank : Rank) (request : ℕ) (from : Server) → IsOther m.config m.me from → Stays m (hinted m rank request from)
   hinted_stays rank request from other =
       stays m (hinted m rank request from).parked
       (turned_sound m (is_since rank request) (hears_of m.config m.me from) sound
       (heard_waits m.config m.me from sound.there other) (heard_wish m.config m.me from))
 
+  -- those that wait stay sound after an ask
   pub ask_stays : (wish : Wish) → IsAway m.config m.me wish.rank → (o : Option Placed) → Stays m (after_ask m wish o)
   ask_stays wish away (Some p) = stays m (after_ask m wish (Some p)).parked (forgotten_sound m wish.rank sound)
   ask_stays wish away None = stays m (after_ask m wish None).parked (wished_sound m wish away sound)
@@ -89,6 +97,7 @@ pub record IsPinned (q r : Queue) : Type 0 where
   pub arrivals : r.arrivals ≡ q.arrivals
   pub common : r.common ≡ q.common
 
+-- a queue has its own pins
 pub same_pins : {q : Queue} → IsPinned q q
 same_pins = record { arrivals = refl; common = refl }
 
@@ -96,6 +105,7 @@ pinned_pins : (q : Queue) (rank : Rank) (o : Option Placed) → IsPinned q (pinn
 pinned_pins q rank None = same_pins
 pinned_pins q rank (Some p) = record { arrivals = refl; common = refl }
 
+-- a queue after a grant differs by pins alone
 pub given_pins : (o : Option Waiting) (p : Placed) (q : Queue) → IsPinned q (given o p q)
 given_pins None p q = same_pins
 given_pins (Some e) p q = pinned_pins q e.wish.rank (Some p)
@@ -103,6 +113,7 @@ given_pins (Some e) p q = pinned_pins q e.wish.rank (Some p)
 -- The server.
 
 module _ {i : Inside} (inside : IsInside i) where
+  -- those that wait, as the server's state has them
   pub seen : i.parked ≡ parked_of (state_of i)
   seen =
       ap (λ config. let m : ParkedModel = record { config = config; me = i.parked.me; parked = i.parked.parked } in m) inside.config
@@ -112,6 +123,7 @@ module _ {i : Inside} (inside : IsInside i) where
   pub made_of : (f : ParkedModel → ParkedModel) {n : ParkedModel} → n ≡ f i.parked → n.parked ≡ (f (parked_of (state_of i))).parked
   made_of f is = ap (λ (m : ParkedModel). m.parked) is ∙ ap (λ m. (f m).parked) seen
 
+  -- those that wait at a sound server are sound
   pub parked_is : IsParked i.parked
   parked_is = subst IsParked (sym seen) inside.sound.parked
 
@@ -156,14 +168,17 @@ module _ {i : Inside} (inside : IsInside i) where
   pub parked_inside : {n now : ParkedModel} → n ≡ now → Stays i.parked now → IsInside (record i { parked = n })
   parked_inside is stays = closes {queue = i.queue} {after = i.queue} is stays refl same_pins
 
+  -- a server is sound with a queue that differs by pins alone
   pub queue_inside : {queue after : Queue} → queue ≡ after → IsPinned i.queue after → IsInside (record i { queue = queue })
   queue_inside is pins = closes {n = i.parked} {now = i.parked} refl (same_stays parked_is) is pins
 
 -- what is seen of the whole server
 module _ {i : Inside} (inside : IsInside i) {s : ServerModel} (is : state_of i ≡ s) where
+  -- those that wait, as an equal state has them
   pub parked_at : i.parked ≡ parked_of s
   parked_at = seen inside ∙ ap parked_of is
 
+  -- those that wait are sound in an equal state
   pub sound_at : IsParked (parked_of s)
   sound_at = subst (λ u. IsParked (parked_of u)) is inside.sound.parked
 
@@ -198,6 +213,7 @@ ring_inside inside same check = record {
   ring_me = same.0 ∙ inside.ring_me;
 }
 
+-- a server is sound after a visit of a token
 pub visited_inside : {i : Inside} {n : RingModel} → IsInside i → AreOfOne i.ring n → n.ring.check ≡ i.ring.ring.check
     → IsInside (record i { ring = n })
 visited_inside {i} inside same is = ring_inside inside same (subst (λ k. k ≤ i.clock) (sym is) inside.sound.check)

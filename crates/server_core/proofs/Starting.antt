@@ -104,6 +104,7 @@ check_here {i} {asked} {fits} inside front alone =
     ∙ started_same (ring_at s) i.activity (askers s.kept) fits (fit_among s.kept (askers s.kept))
     (λ one. alone (eqb-true s.config.servers 1 one) ∙ ap (fit_among s.kept) front)
 
+-- the check that is started is that of the rule
 pub check_is : {i : Inside} {s : ServerModel} {asked : List Asker} {fits : Option UnitId} → IsInside i → state_of i ≡ s
     → asked ≡ askers s.kept → (s.config.servers ≡ 1 → fits ≡ fit_among s.kept asked) → started i.ring i.activity asked fits ≡ check_alone s
 check_is {i} {s} {asked} {fits} inside is =
@@ -111,6 +112,7 @@ check_is {i} {s} {asked} {fits} inside is =
     (λ (u : ServerModel). asked ≡ askers u.kept → (u.config.servers ≡ 1 → fits ≡ fit_among u.kept asked)
     → started i.ring i.activity asked fits ≡ check_alone u) is (check_here inside)
 
+-- a server is sound after it starts a check
 pub started_inside : {i : Inside} {s : ServerModel} {n : RingModel} (asked : List Asker) (fits : Option UnitId) → IsInside i
     → state_of i ≡ s
     → n ≡ (started i.ring i.activity asked fits).ring → AreOfOne i.ring n → s.me.0 ≡ 0 → s.kept.ring.check < s.clock
@@ -189,6 +191,7 @@ module _ (s : ServerModel) (out : Out) (may : MayStart (ring_at s) (is_quiet s))
       ∙ sym (act_steps Starts (Pass t) s u out refl refl refl [] refl)
       ∙ ap (λ l. going_on out l s) list
 
+  -- a check that may start is carried out as the rule says
   pub checks_go : stepped o.step out v ≡ going_on out (checks s) s
   checks_go = by_test (s.config.servers == 1) refl ∙ ap (λ l. going_on out l s) list
     where

@@ -129,6 +129,7 @@ module _ (s : ServerModel) (sound : IsParked (parked_of s)) where
             subst Goes (sym left) told;
       }
 
+  -- what is known of the end that is told next
   pub end_told : {u : ServerModel} {rank : Rank} {request : ℕ} → u ≡ unidle_first s
       → Some (rank, request) ≡ option_map (λ (e : Waiting). call_of e.wish) first → EndTold s u rank request
   end_told {u} {rank} {request} made told =

@@ -7,7 +7,7 @@ use Rattle.bag_ledger.proofs.Tests.{some_is}
 use Rattle.work_queue.specs.Queue.{HasNoPromise, HasPromise, HasRoom, Promise}
 use Rattle.work_queue.proofs.Conditions.{no_promise, promise_from_room}
 
--- what is told of room
+-- what is said of room
 pub unpromised : (id : UnitId) (promises : List Promise) (o : Option ℕ) → ((n : ℕ) → (o ≡ Some n) ↔ HasRoom id n promises)
     → (is_some o ≡ false) ↔ HasNoPromise id promises
 unpromised id promises None told = (λ none. no_promise promises id (λ n has. let some = (told n).1 has in absurd (cc)), λ none. refl)
@@ -16,6 +16,7 @@ unpromised id promises (Some n) told = (
   λ none. let has = (told n).0 refl in absurd (none has.0 has.1 has.2 (ap (λ (p : Promise). p.id) has.3 ∙ has.4.0)),
 )
 
+-- an id has room exactly if it has a promise
 pub promised : (id : UnitId) (promises : List Promise) (o : Option ℕ) → ((n : ℕ) → (o ≡ Some n) ↔ HasRoom id n promises)
     → (is_some o ≡ true) ↔ HasPromise id promises
 promised id promises None told = (
@@ -26,11 +27,13 @@ promised id promises (Some n) told = (λ some. promise_from_room promises id n (
 
 -- room of this length
 module _ (id : UnitId) (promises : List Promise) (o : Option ℕ) (told : (m : ℕ) → (o ≡ Some m) ↔ HasRoom id m promises) where
+  -- the room of an id is its promise's
   pub has_room : (k n : ℕ) → o ≡ Some k → IsTrue (k == n) ↔ HasRoom id n promises
   has_room k n some = (
     λ same. (told n).0 (some ∙ ap (λ m. Some m) (eqb-true k n same)),
     λ has. eq-eqb k n (some_is (sym some ∙ (told n).1 has)),
   )
 
+  -- an id without room has no promise
   pub has_none : (n : ℕ) → o ≡ None → HasRoom id n promises → ⊥
   has_none n none has = let some = sym none ∙ (told n).1 has in absurd (cc)

@@ -24,6 +24,7 @@ abbrev pub out_after : Out → List ServerSaying → List Entry → ServerModel 
 out_after out list entries s =
     record { sends = out.sends ++ stamped s list; entries = out.entries ++ entries; room = out.room }
 
+-- the sayings are sent
 abbrev pub said : Out → List ServerSaying → ServerModel → Served
 said out list s = record { state = all_counted s list; sends = out.sends ++ stamped s list; entries = out.entries }
 
@@ -39,10 +40,12 @@ step_says Exhausted s = to_others s tells.Exhaust
 step_says Shutdown s = to_others s tells.Shutdown
 step_says Ended s = []
 
+-- a check that finds that all work is used up enters it
 abbrev pub step_enters : RingStep → List Entry
 step_enters Exhausted = enters.Exhausted ∷ []
 step_enters _ = []
 
+-- and tells all idle ranks
 abbrev pub step_tells : RingStep → List Waiting → List Act
 step_tells Exhausted waiting = tells_all ends_by.Exhausted [] waiting
 step_tells _ waiting = []
@@ -53,7 +56,7 @@ stepped step out s =
     let t = all_counted s (step_says step s) in
     going_on (out_after out (step_says step s) (step_enters step) s) (step_tells step s.kept.parked.waiting) t
 
--- at most so many letters, and entries, besides those to ranks
+-- at most this number of letters, and of entries, besides those to ranks
 abbrev pub step_letters : RingStep → ServerModel → ℕ
 step_letters Exhausted s = s.config.servers
 step_letters Shutdown s = s.config.servers

@@ -1,4 +1,4 @@
--- What stands after a failure.
+-- What is left after a failure.
 use Rattle.std.specs.Prelude.{Bool, true, List, Option, None, Some, slice_set}
 use Rattle.adlb_unit.specs.declared.actors.Actor.{Actor}
 use Rattle.adlb_unit.specs.declared.actors.Actor.TheVariants as by

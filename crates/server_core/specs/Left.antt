@@ -5,6 +5,7 @@ use Rattle.work_queue.specs.declared.placing.Placed.{Placed}
 use Rattle.server_law.specs.State.{ServerModel}
 use Rattle.server_core.specs.declared.states.LeftUnit.{LeftUnit}
 
+-- a unit as it is left
 abbrev pub left_unit : Server → Placed → LeftUnit
 left_unit server p = record { id = p.unit.id; server = server; pinned = p.pin }
 

@@ -10,12 +10,14 @@ use Rattle.server_law.specs.Carried.{Served, carried, done, joined}
 use Rattle.server_law.specs.Plan.{Plan, decided}
 use Rattle.server_law.specs.State.{ServerModel}
 
+-- what an event has sent and entered
 pub record Out : Type 0 where
   pub sends : List Sending
   pub entries : List Entry
   -- how many letters more there is room for, and how many entries
   pub room : ℕ
 
+-- nothing yet, with this room
 abbrev pub nothing : ℕ → Out
 nothing room = record { sends = []; entries = []; room = room }
 
@@ -23,9 +25,11 @@ nothing room = record { sends = []; entries = []; room = room }
 abbrev pub with_entry : Out → Entry → Out
 with_entry out entry = record { sends = out.sends; entries = out.entries ++ entry ∷ []; room = out.room - 1 }
 
+-- with one letter more
 abbrev pub with_letter : Out → Sending → Out
 with_letter out sending = record { sends = out.sends ++ sending ∷ []; entries = out.entries; room = out.room - 1 }
 
+-- with one letter and one entry more
 abbrev pub with_answer : Out → Sending → Entry → Out
 with_answer out sending entry = record { sends = out.sends ++ sending ∷ []; entries = out.entries ++ entry ∷ []; room = out.room - 1 }
 

@@ -1,4 +1,4 @@
--- What becomes of those that wait at a server, and what is told of it.
+-- What becomes of those that wait at a server, and what is said then.
 use Rattle.std.specs.Prelude.{ℕ, Bool, true, false, List, Option, None, Some}
 use Rattle.adlb_unit.specs.declared.actors.Actor.TheVariants as by
 use Rattle.adlb_unit.specs.declared.messages.Message.TheVariants as tells
@@ -31,9 +31,11 @@ over_by true exhausted = Some ends_by.NoMoreWork
 over_by false true = Some ends_by.Exhausted
 over_by false false = None
 
+-- the end that calls are told, if they are over
 abbrev pub over : Kept → Option End
 over k = over_by k.done k.exhausted
 
+-- a wish of its parts
 abbrev pub wish_of : Rank → ℕ → Option (List WorkType) → Wish
 wish_of rank request types = record { rank = rank; request = request; types = types }
 
@@ -47,7 +49,7 @@ with_parked s queue parked = record s { kept = record s.kept { queue = queue; pa
 abbrev pub pinning : ServerModel → Rank → Option Placed → ParkedModel → ServerModel
 pinning s rank o m = with_parked s (pinned_to rank o s.kept.queue) m.parked
 
--- a rank seeks a unit, and waits if there is none
+-- a rank seeks a unit, and waits without one
 abbrev pub sought : ServerModel → Wish → ServerModel
 sought s wish =
     let best = best_for s.kept.queue wish.rank wish.types in
@@ -72,9 +74,11 @@ abbrev pub offered_by : Bool → Option Placed → Option Placed
 offered_by true best = None
 offered_by false best = best
 
+-- the unit that a wish gets here, if it does
 abbrev pub offered : Kept → Wish → Option Placed
 offered k wish = offered_by k.done (best_for k.queue wish.rank wish.types)
 
+-- the server after it was asked for the wish
 abbrev pub asked : ServerModel → Wish → ServerModel
 asked s wish = pinning s wish.rank (offered s.kept wish) (after_ask (parked_of s) wish (offered s.kept wish))
 

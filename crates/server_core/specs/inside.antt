@@ -41,9 +41,11 @@ parked_of s = record { config = s.config; me = s.me; parked = s.kept.parked }
 abbrev pub bytes_of : BatchId × Part → ℕ
 bytes_of e = length e.1.bytes
 
+-- the bytes of all parts
 abbrev pub bytes_in : Store → ℕ
 bytes_in parts = sum_by bytes_of parts
 
+-- what holds of a server's state
 pub record IsSound (s : ServerModel) : Type 0 where
   pub finished : length s.kept.finished ≡ s.config.ranks
   pub actors : length s.sent ≡ s.config.ranks + s.config.servers
@@ -59,6 +61,7 @@ pub record IsSound (s : ServerModel) : Type 0 where
   pub sent : All (λ n. n ≤ event_letters * s.clock) s.sent
   pub clock : s.clock < stamp_limit
 
+-- what holds of a server's fields
 pub record IsInside (i : Inside) : Type 0 where
   pub sound : IsSound (state_of i)
   -- what waits is seen as at this server, and so are its push and its ring

@@ -14,7 +14,7 @@ use adlb_unit::{Actor, Message, Rank, Server, Types, UnitNote};
 use bag_ledger::Entry;
 
 impl ServerState {
-    // The home of the rank asks for it: the best free unit is pinned to the rank; if there is none, its wish is kept.
+    // The home of the rank asks for it: the best free unit is pinned to the rank, or its wish is kept.
     pub(crate) fn ask_here(
         &mut self,
         from: Server,

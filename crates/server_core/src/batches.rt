@@ -121,7 +121,7 @@ impl ServerState {
         Ok(())
     }
 
-    // That a part is freed is entered; no letter tells of it.
+    // That a part is freed is entered, and said in no letter.
     fn tell_freed(&self, freed: bool, batch: BatchId, out: &mut Outgoing)
         requires { 0 < out.old.room }
         ensures { out.new ≡ (if freed then with_entry out.old (Entry.Freed self.now.me batch) else out.old) }

@@ -1,5 +1,5 @@
-//! The letters Notice, Token, Failed, Exhaust and Shutdown: several servers find that all work is used up, or that no rank
-//! waits or runs any more, by checks that go round the ring of servers.
+//! The letters Notice, Token, Failed, Exhaust and Shutdown. By checks that go round their ring, several servers find
+//! that all work is used up, or that no rank waits or runs any more.
 
 ghost use Rattle.std.specs.Prelude.{◌≡◌, ◌<◌, ◌+◌, ◌-◌, ◌∷◌, ◌⊎◌, [], ℕ, Some};
 ghost use Rattle.adlb_unit.specs.Ring.{behind};
@@ -99,8 +99,8 @@ impl ServerState {
         self.tell_step(step, out);
     }
 
-    // What becomes of a check is said: the token goes on, or to server 0 with the test that failed; a verdict goes to each
-    // other server, and where all work is used up it is entered, and all who are idle are told.
+    // What becomes of a check is said. The token goes on, or to server 0 with the test that failed, or a verdict goes
+    // to each other server. If all work is used up, that is entered, and all idle ranks are told.
     pub(crate) fn tell_step(&mut self, step: RingStep, out: &mut Outgoing)
         requires { HasRoom self.old out.old (step_letters step self.old) }
         ensures made { made self.new out.new ≡ stepped step out.old self.old }
@@ -125,7 +125,7 @@ impl ServerState {
         }
     }
 
-    // Each other server is told the verdict, from the one behind this one on.
+    // Each other server is told the verdict, from the one after this one on.
     fn tell_others(&mut self, shut: bool, out: &mut Outgoing)
         requires { HasRoom self.old out.old (self.old.config.servers - 1) }
         ensures told { made self.new out.new ≡ said out.old (to_others self.old (verdict shut)) self.old }
@@ -136,7 +136,7 @@ impl ServerState {
         }
     }
 
-    // The server that is so many places behind this one is told the verdict.
+    // The server `places` after this one in the ring is told the verdict.
     fn tell_behind(&mut self, places: u32, shut: bool, out: &mut Outgoing)
         requires places { places < self.old.config.servers }
         requires room { HasRoom self.old out.old 1 }

@@ -11,7 +11,7 @@ use adlb_unit::{Actor, Message, Rank, WorkType};
 use bag_ledger::Entry;
 
 impl ServerState {
-    // The rank is told of the free units of the type.
+    // The rank is told how many free units of the type there are.
     pub(crate) fn count(&mut self, from: Rank, request: u64, kind: WorkType, out: &mut Outgoing)
         requires rank { from.0 < self.old.config.ranks }
         requires room { HasRoom self.old out.old 2 }

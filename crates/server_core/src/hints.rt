@@ -31,8 +31,8 @@ impl ServerState {
         }
     }
 
-    // A free unit of this type and target, which no rank that waits here takes, takes off the wishes of ranks to which it
-    // is permitted: the home of each is told.
+    // A free unit of this type and target, which no rank that waits here takes, takes off the wishes of ranks to
+    // which it is permitted. The home of each is told.
     pub(crate) fn hint_homes(&mut self, kind: WorkType, target: Target, out: &mut Outgoing)
         requires { HasRoom self.old out.old 2 }
         ensures made { (unit : Unit) → unit.kind ≡ kind → unit.target ≡ target →

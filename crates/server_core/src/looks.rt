@@ -11,7 +11,7 @@ use adlb_unit::{Actor, End, Message, Rank, Types};
 use bag_ledger::Entry;
 
 impl ServerState {
-    // The rank gets the best free unit; if there is none, it is told so.
+    // The rank gets the best free unit, or is told that nothing is there.
     pub(crate) fn look(&mut self, from: Rank, request: u64, types: &Types, out: &mut Outgoing)
         requires rank { from.0 < self.old.config.ranks }
         requires room { HasRoom self.old out.old 2 }

@@ -98,7 +98,7 @@ impl Outgoing {
         })
     }
 
-    // An entry that no letter tells of.
+    // An entry that is said in no letter.
     pub(crate) fn enter(&mut self, entry: Entry)
         requires { 0 < self.old.room }
         ensures { self.new ≡ with_entry self.old entry }
@@ -107,7 +107,7 @@ impl Outgoing {
         self.entries.push_reserved(entry);
     }
 
-    // A letter that tells of no entry.
+    // A letter that says no entry.
     pub(crate) fn say(&mut self, sending: Sending)
         requires { 0 < self.old.room }
         ensures { self.new ≡ with_letter self.old sending }
@@ -116,7 +116,7 @@ impl Outgoing {
         self.sends.push_reserved(sending);
     }
 
-    // A letter, and the entry that it tells of.
+    // A letter, and the entry that it says.
     pub(crate) fn answer(&mut self, sending: Sending, entry: Entry)
         requires { 0 < self.old.room }
         ensures { self.new ≡ with_answer self.old sending entry }

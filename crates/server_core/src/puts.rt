@@ -82,8 +82,8 @@ impl ServerState {
         }
     }
 
-    // A free unit of this id, if one is here, goes to a rank that waits for it; if there is none, the homes of ranks
-    // that wait elsewhere are told.
+    // A free unit of this id, if one is here, goes to a rank that waits for it. If no rank here does, the homes of
+    // ranks that wait elsewhere are told.
     pub(crate) fn settle(&mut self, id: UnitId, out: &mut Outgoing)
         requires { HasRoom self.old out.old 2 }
         ensures made { made self.new out.new ≡ going_on out.old (settles id self.old) self.old }

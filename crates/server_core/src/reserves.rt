@@ -22,7 +22,7 @@ use bag_ledger::Entry;
 use reserve_path::ReserveStep;
 
 impl ServerState {
-    // The rank gets the best free unit; if there is none, it waits, and the first of the other servers is asked.
+    // The rank gets the best free unit; otherwise it waits, and the first of the other servers is asked.
     pub(crate) fn reserve(&mut self, from: Rank, request: u64, types: &Types, out: &mut Outgoing)
         requires rank { from.0 < self.old.config.ranks }
         requires awaited { IsHome self.old from × Runs self.old from }
@@ -42,7 +42,8 @@ impl ServerState {
         }
     }
 
-    // What a rank that seeks a unit has come to: it is told of the unit, or the next server is asked for it, or it is idle.
+    // What a rank that seeks a unit has come to: the unit is granted to it, or the next server is asked for it, or it
+    // is idle.
     pub(crate) fn tell_sought(
         &mut self,
         rank: Rank,
@@ -67,7 +68,7 @@ impl ServerState {
         }
     }
 
-    // The rank is told of the unit that was pinned to it here.
+    // The rank is told which unit was pinned to it here.
     pub(crate) fn grant(&mut self, rank: Rank, request: u64, note: UnitNote, out: &mut Outgoing)
         requires rank { rank.0 < self.old.config.ranks }
         requires room { 0 < out.old.room }

@@ -186,7 +186,7 @@ impl ServerState {
         Sending { to, letter }
     }
 
-    // Sends the actor a letter that tells of no entry.
+    // Sends the actor a letter that says no entry.
     pub(crate) fn say(&mut self, to: Actor, message: Message, out: &mut Outgoing)
         requires actor { IsWithin self.old.config to }
         requires room { 0 < out.old.room }
@@ -200,7 +200,7 @@ impl ServerState {
         out.say(sending);
     }
 
-    // Sends the actor a letter, and enters what it tells of.
+    // Sends the actor a letter, and enters what it says.
     pub(crate) fn answer(&mut self, to: Actor, message: Message, entry: Entry, out: &mut Outgoing)
         requires actor { IsWithin self.old.config to }
         requires room { 0 < out.old.room }

@@ -39,7 +39,7 @@ impl ServerState {
         ensures too_long { (n : ℕ) → (result ≡ Err (Trouble.TooLong n)) ↔
             ((stamp_limit ≤ next_stamp self.old letter) × (n ≡ next_stamp self.old letter)) }
 
-        // What stands after a failure.
+        // What is left after a failure.
         ensures broken { IfErr result (λ trouble. self.new.trouble ≡ Some trouble) }
         ensures heard { IfErr result (λ trouble. self.new.kept.finished ≡
             heard_finish self.old.kept.finished from letter.message) }
@@ -49,9 +49,9 @@ impl ServerState {
         if stamp >= STAMP_LIMIT {
             return Err(self.fail(finishes, Trouble::TooLong { stamp }));
         }
-        // An event answers its letter, or enters that a unit has come; asks a server, frees a part, or says what a push
-        // needs; or enters a verdict and tells each of at most seven other servers. It answers each rank that waits, or
-        // hints for each wish. Then it gives notice, or starts a check.
+        // An event answers its letter, or enters that a unit has come. Or it asks a server, frees a part, or says
+        // what a push needs. Or it enters a verdict and tells each of at most seven other servers. It answers each
+        // rank that waits, or hints for each wish. Then it gives notice, or starts a check.
         let (waiting, wishes) = self.waiting_and_wishes();
         let Ok(mut out) = Outgoing::new(spare, waiting + wishes + 9) else {
             return Err(self.fail(finishes, Trouble::Memory));

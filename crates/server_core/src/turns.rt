@@ -1,5 +1,5 @@
-//! What becomes of the ranks that wait here, and of wishes: a rank waits, waits no longer or is looked at again, and where
-//! it gets a unit, the unit is pinned to it. Nobody is told of it here.
+//! What becomes of the ranks that wait here, and of wishes. A rank waits, waits no longer or is looked at again; if
+//! it gets a unit, the unit is pinned to it. Nothing of this is said here.
 
 ghost use Rattle.std.specs.Prelude.{◌≡◌, Some, find, true, false};
 ghost use Rattle.std.specs.Option.{option_map};
@@ -33,7 +33,7 @@ impl ServerState {
         }
     }
 
-    // The rank, which is at home here and does not wait, gets the best free unit; if there is none, it waits.
+    // The rank, which is at home here and does not wait, gets the best free unit, or waits.
     pub(crate) fn seek(&mut self, rank: Rank, request: u64, types: &Types) -> ReserveStep
         requires here { IsHere self.old.config self.old.me rank }
         requires new { is_waiting self.old.kept rank ≡ false }
@@ -64,8 +64,7 @@ impl ServerState {
         self.parked.remote_end(rank);
     }
 
-    // The server that was asked for the rank had no unit: the rank gets the best free unit here; if there is none, it goes
-    // on waiting.
+    // The server that was asked for the rank had no unit: the rank gets the best free unit here, or goes on waiting.
     pub(crate) fn look_again(&mut self, rank: Rank) -> ReserveStep
         requires { is_pending (parked_of self.old) rank ≡ true }
 
@@ -91,8 +90,8 @@ impl ServerState {
         self.parked.hint(rank, request, from).is_some()
     }
 
-    // The home of the rank asks for it: the rank gets the best free unit; if there is none, or the problem is done, its wish
-    // is kept.
+    // The home of the rank asks for it: the rank gets the best free unit. Without one, or if the problem is done, its
+    // wish is kept.
     pub(crate) fn pin_for(&mut self, rank: Rank, request: u64, types: &Types) -> Option<UnitNote>
         requires { IsAway self.old.config self.old.me rank }
 

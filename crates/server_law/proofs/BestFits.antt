@@ -24,7 +24,7 @@ use Rattle.server_law.specs.State.{Kept}
 use Rattle.server_law.specs.Sure.{IsFound, IsFreeFor}
 use Rattle.server_law.proofs.ByIds.{free_is_found, listed_is_found}
 
--- the best unit stands in the list, and is free and permitted
+-- the best unit is in the list, and is free and permitted
 best_stands : (rank : Rank) (types : Option (List WorkType)) (units : List Placed) (id : UnitId) → best_of rank types units ≡ Some id
     → (p : Placed) × Contains units p × (id_of p ≡ id) × (offered rank types p ≡ true)
 best_stands rank types units id is = by_found (best_from rank types None units) refl is

@@ -14,7 +14,7 @@ use Rattle.work_queue.specs.declared.placing.Placed.{Placed}
 use Rattle.reserve_path.specs.Grants.{unit_with}
 use Rattle.server_law.specs.Finding.{is_free_as, is_pin, is_pinned_as}
 
--- a unit that stands in the list is the one that its id finds
+-- a unit that is in the list is the one that its id finds
 pub listed_is_found : (units : List Placed) (p : Placed) (id : UnitId) → HasDistinctIds units → Contains units p → id_of p ≡ id
     → unit_with id units ≡ Some p
 listed_is_found units p id distinct there is = by_found (unit_with id units) refl

@@ -186,12 +186,14 @@ ask_handled s from wish other expected =
 -- where the sender was asked for the rank that waits here since this call
 module _ (s : ServerModel) (from : Server) (rank : Rank) (request : ℕ) (p : Place) (other : (from.0 == s.me.0) ≡ false)
     (found : place_in (has_asked from rank request) s.kept.parked.waiting ≡ Some p) (asked : p.here.asked ≡ Some from) where
+  -- a grant of the server that was asked is passed on to the rank
   pub grant_handled : (note : UnitNote) → handled s (by.Server from) (tells.AskGrant rank request note)
       ≡ Some (followed_by (performed (Passes_on p.at p.here.wish from p.here.to_ask note) s) ends_event)
   grant_handled note =
       handled_by s (by.Server from) (tells.AskGrant rank request note) (Passes_on p.at p.here.wish from p.here.to_ask note) []
       (rw (other, found, asked) refl)
 
+  -- after the answer that nothing was found, the home looks again and asks on
   pub none_handled : handled s (by.Server from) (tells.AskNone rank request)
       ≡ Some (followed_by (performed (Wakes p.at p.here.wish from p.here.to_ask) s)
       (looks_again p.here.wish.rank ∷ asks_on p.here.wish.rank ∷ ends_event))
@@ -201,6 +203,7 @@ module _ (s : ServerModel) (from : Server) (rank : Rank) (request : ℕ) (p : Pl
 
 module _ (s : ServerModel) (from : Server) (rank : Rank) (request : ℕ) (other : (from.0 == s.me.0) ≡ false)
     (expected : expects_hint s rank ≡ true) where
+  -- a hint for a rank that waits makes the home ask
   pub hint_handled : (p : Place) → place_in (is_since rank request) s.kept.parked.waiting ≡ Some p
       → handled s (by.Server from) (tells.Hint rank request)
       ≡ Some (followed_by (performed (Is_hinted p.at p.here from) s) (asks_on p.here.wish.rank ∷ ends_event))
@@ -208,6 +211,7 @@ module _ (s : ServerModel) (from : Server) (rank : Rank) (request : ℕ) (other 
       handled_by s (by.Server from) (tells.Hint rank request) (Is_hinted p.at p.here from) (asks_on p.here.wish.rank ∷ [])
       (rw (other, expected, found) refl)
 
+  -- a hint for a rank that waits no longer is dropped
   pub late_hint_handled : place_in (is_since rank request) s.kept.parked.waiting ≡ None
       → handled s (by.Server from) (tells.Hint rank request)
       ≡ Some (followed_by (performed (Drops_hint from rank request) s) ends_event)
@@ -217,6 +221,7 @@ module _ (s : ServerModel) (from : Server) (rank : Rank) (request : ℕ) (other 
 -- Pushes.
 
 module _ (s : ServerModel) (from : Server) (id : UnitId) (other : (from.0 == s.me.0) ≡ false) where
+  -- a query is answered by whether there is room
   pub query_handled : (n : ℕ) → expects_query s.kept id ≡ true
       → handled s (by.Server from) (tells.PushQuery id n)
       ≡ Some (followed_by (performed (answer_query (exceeds s.kept.queue n) from id n) s) ends_event)
@@ -231,11 +236,13 @@ module _ (s : ServerModel) (from : Server) (id : UnitId) (other : (from.0 == s.m
       handled_by s (by.Server from) (tells.PushYes id) (sends_on from id n (find (is_free_as id) s.kept.queue.units)) []
       (rw (other, stands, push_from from id n false) refl)
 
+  -- a refused push stops
   pub no_handled : (n : ℕ) → s.kept.pushing.push ≡ Some (asks_room from id n)
       → handled s (by.Server from) (tells.PushNo id) ≡ Some (followed_by (performed (Stops_push from id n) s) ends_event)
   no_handled n stands =
       handled_by s (by.Server from) (tells.PushNo id) (Stops_push from id n) [] (rw (other, stands, push_from from id n false) refl)
 
+  -- an acknowledged push ends
   pub ack_handled : (n : ℕ) → s.kept.pushing.push ≡ Some (has_sent from id n)
       → handled s (by.Server from) (tells.PushAck id) ≡ Some (followed_by (performed (Ends_push from id n) s) ends_event)
   ack_handled n stands =
@@ -257,6 +264,7 @@ unit_handled s from unit other expected =
 -- Checks.
 
 module _ (s : ServerModel) (from : Server) (other : (from.0 == s.me.0) ≡ false) where
+  -- a notice at server 0 is noted
   pub notice_handled : (s.me.0 == 0) ≡ true
       → handled s (by.Server from) tells.Notice ≡ Some (followed_by (performed (Wants from) s) ends_event)
   notice_handled zeroth = handled_by s (by.Server from) tells.Notice (Wants from) [] (rw (other, zeroth) refl)
@@ -269,6 +277,7 @@ module _ (s : ServerModel) (from : Server) (other : (from.0 == s.me.0) ≡ false
       handled_by s (by.Server from) (tells.Token t) first follow
       (ap (λ b. cond b None (token_rule s from t)) other ∙ ap (λ b. cond b (visit s from t) None) expected ∙ is)
 
+  -- the failure of the check that runs is noted
   pub failed_handled : (t : Token) (why : Why) → is_running (ring_at s) t ≡ true
       → handled s (by.Server from) (tells.Failed t why) ≡ Some (followed_by (performed (Hears_failed from t why) s) ends_event)
   failed_handled t why runs =
@@ -282,6 +291,7 @@ module _ (s : ServerModel) (from : Server) (other : (from.0 == s.me.0) ≡ false
   exhaust_handled zeroth =
       handled_by s (by.Server from) tells.Exhaust (Hears_exhaust from) (tells_idle ends_by.Exhausted ∷ []) (rw (other, zeroth) refl)
 
+  -- a shutdown from server 0 is noted
   pub shutdown_handled : (from.0 == 0) ≡ true
       → handled s (by.Server from) tells.Shutdown ≡ Some (followed_by (performed (Hears_shutdown from) s) ends_event)
   shutdown_handled zeroth = handled_by s (by.Server from) tells.Shutdown (Hears_shutdown from) [] (rw (other, zeroth) refl)

@@ -44,7 +44,7 @@ from_on_low m t p low is = grind (arith, ints)
 both_low : (m t : ℤ) → m ≤ℤ t → t ≤ℤ m → m ≡ t
 both_low m t low high = grind (arith, ints)
 
--- one that stands there is counted
+-- one that is there is counted
 counted_here : (m : ℤ) (ps : List ℤ) → Contains ps m → 0 < sum_by (from_on m) ps
 counted_here m ps at =
     let one : from_on m m ≡ 1 = rw (itself m) refl in

@@ -287,8 +287,8 @@ of_another_type_its_first_rank_does_not_get_it :
     settled (Some (record { 0 = 3 } ∷ [])) (targets.Soft (rank 2)) ≡ accepts 0 ∷ grants 1 0 0 ∷ []
 of_another_type_its_first_rank_does_not_get_it = refl
 
--- What a reserve is granted first: what is for the rank alone, then what is for it before others, then what is for any, then what is
--- for another rank before it, whatever the priorities.
+-- What a reserve is granted first, whatever the priorities: what is for the rank alone, then for it before others, then for any, then for
+-- another rank before it.
 
 abbrev four_puts : List Said
 four_puts =

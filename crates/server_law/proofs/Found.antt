@@ -72,7 +72,7 @@ best_says k wish = by_best (best_of wish.rank wish.types k.queue.units) refl
 stands : (test : Placed → Bool) (units : List Placed) (p : Placed) → find test units ≡ Some p → (test p ≡ true) × Contains units p
 stands test units p found = let first = find_first test units p found in (first.passes, (first.place, first.within, first.read))
 
--- a unit that is found pinned to a rank has this id and this pin, and stands in the list
+-- a unit that is found pinned to a rank has this id and this pin, and is in the list
 pub pinned_is : (id : UnitId) (rank : Rank) (units : List Placed) (p : Placed) → find (is_pinned_as id rank) units ≡ Some p
     → (id_of p ≡ id) × (p.pin ≡ Some rank) × Contains units p
 pinned_is id rank units p found =
@@ -85,7 +85,7 @@ pub pinned_there : (id : UnitId) (rank : Rank) (units : List Placed) → HasPinn
     → (p : Placed) × (find (is_pinned_as id rank) units ≡ Some p)
 pinned_there id rank units has = some_there (find (is_pinned_as id rank) units) ((pinned_says id rank units).1 has)
 
--- a free unit that is found has this id and stands in the list
+-- a free unit that is found has this id and is in the list
 pub free_is : (id : UnitId) (units : List Placed) (p : Placed) → find (is_free_as id) units ≡ Some p
     → (id_of p ≡ id) × (p.pin ≡ None) × Contains units p
 free_is id units p found =

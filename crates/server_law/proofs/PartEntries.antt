@@ -181,6 +181,7 @@ module _ (found : Bag → Bool) (b : Bag) (s : ServerModel) (batch : BatchId) (p
       ∙ none_changed is_lot_due (of_batch batch) (λ p. frees_it (g p)) b.parts rests
       (λ p found. freed_not_due (g p).closed ((g p).fetched == (g p).accepted))
 
+  -- an entry of a part, and its freeing if it is due, are steps of the bag
   pub part_steps : has_due b ≡ false → (e : Entry) → StepsWhere found b e next
       → AreSteps found b (e ∷ frees s.me batch now) (with_store (changed f s.kept.parts batch) (given_back now s.kept.queue) s)
   part_steps rests e step = by_due (is_due now) refl

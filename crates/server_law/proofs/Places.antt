@@ -71,7 +71,7 @@ module _ (test : Waiting → Bool) where
       by_test true is none rest = absurd (cc)
       by_test false is none rest = All-cons (λ x. test x ≡ false) e waiting is (rest (behind_none e (place_in test waiting) none))
 
-  -- the first of which it is true is found, where it stands
+  -- the first of which it is true is found, where it is
   pub found_there : (before : List Waiting) (here : Waiting) (behind : List Waiting) → All (λ e. test e ≡ false) before → test here ≡ true
       → place_in test (before ++ here ∷ behind) ≡ Some (place before here behind)
   found_there [] here behind fails passes = rw passes refl

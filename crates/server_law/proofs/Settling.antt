@@ -81,6 +81,7 @@ module _ (s : ServerModel) (unit : Unit) (expected : expects_put s unit.id.rank 
   pub settles_refused : settles unit.id (done (Refuses unit) s) ≡ []
   settles_refused = settles_unknown unit.id (done (Refuses unit) s) new
 
+  -- a put that ended leaves no unit to settle
   pub settles_ended : (end : End) → settles unit.id (done (Ends_put unit end) s) ≡ []
   settles_ended end = settles_unknown unit.id (done (Ends_put unit end) s) new
 

@@ -120,6 +120,7 @@ module _ (s : ServerModel) (alone : s.config.servers ≡ 1) where
   now : (check_alone s).step ≡ (checked (ring_at s) s.activity (askers s.kept) (fit_among s.kept (askers s.kept))).step
   now = ap (λ (o : Outcome). o.step) (by_fit (ring_at s) s.activity (askers s.kept) (fit_among s.kept (askers s.kept)) alone)
 
+  -- if a quiet server that is alone finds exhaustion by its check, it is exhausted
   pub exhausted_alone : is_quiet s ≡ true → (check_alone s).step ≡ Exhausted → IsExhausted s
   exhausted_alone quiet is = by_waiting s.kept.parked.waiting refl
     where
@@ -138,6 +139,7 @@ module _ (s : ServerModel) (alone : s.config.servers ≡ 1) where
         unfit = unfit_where s.kept found.0;
       }
 
+  -- a server that is alone and shuts down has no rank that waits
   pub shut_alone : (check_alone s).step ≡ Shutdown → s.kept.parked.waiting ≡ []
   shut_alone is = by_waiting s.kept.parked.waiting refl
     where

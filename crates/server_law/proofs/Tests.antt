@@ -73,12 +73,14 @@ found_any test (x ∷ xs) = by_test (test x) (found_any test xs)
 
 -- of elements that pass
 module _ {X : Type 0} (test : X → Bool) (P : X → Type 0) (says : (x : X) → Says (test x) (P x)) where
+  -- some element passes exactly if some has the property
   pub any_says : (xs : List X) → Says (list_any test xs) (Any P xs)
   any_says xs = (
     λ is. let has = Any-from_list_any test xs is in (has.0, has.1, has.2, has.3, (says has.1).0 has.4),
     λ has. list_any-from_Any test xs (has.0, has.1, has.2, has.3, (says has.1).1 has.4),
   )
 
+  -- no element passes exactly if each lacks the property
   pub none_says : (xs : List X) → (list_any test xs ≡ false) ↔ All (λ x. P x → ⊥) xs
   none_says xs = (
     λ none k d within holds.

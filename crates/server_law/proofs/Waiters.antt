@@ -23,18 +23,22 @@ Has P [] = ⊥
 Has P (x ∷ xs) = P x ⊎ Has P xs
 
 module _ {X : Type 0} (P : X → Type 0) where
+  -- `All` of a list is `Each` of it
   pub each_all : (xs : List X) → All P xs → Each P xs
   each_all [] all = tt
   each_all (x ∷ xs) all = (All-head P x xs all, each_all xs (All-tail P x xs all))
 
+  -- `Each` of a list is `All` of it
   pub all_each : (xs : List X) → Each P xs → All P xs
   all_each [] each = All-nil P
   all_each (x ∷ xs) each = All-cons P x xs each.0 (all_each xs each.1)
 
+  -- what holds of each of two lists holds of each of both together
   pub each_append : (xs ys : List X) → Each P xs → Each P ys → Each P (xs ++ ys)
   each_append [] ys a b = b
   each_append (x ∷ xs) ys a b = (a.0, each_append xs ys a.1 b)
 
+  -- what holds of each of two lists together holds of each in either
   pub each_parts : (xs ys : List X) → Each P (xs ++ ys) → Each P xs × Each P ys
   each_parts [] ys all = (tt, all)
   each_parts (x ∷ xs) ys all = let rest = each_parts xs ys all.1 in ((all.0, rest.0), rest.1)
@@ -44,23 +48,28 @@ module _ {X : Type 0} (P : X → Type 0) where
   has_at (y ∷ ys) zero x within read holds = inl (subst P (sym read) holds)
   has_at (y ∷ ys) (suc k) x within read holds = inr (has_at ys k x (omega arith) read holds)
 
+  -- an element of `Any` is one of `Has`
   pub any_has : (xs : List X) → Any P xs → Has P xs
   any_has xs any = has_at xs any.0 any.1 any.2 any.3 any.4
 
+  -- an element of `Has` is one of `Any`
   pub has_any : (xs : List X) → Has P xs → Any P xs
   has_any [] has = absurd has
   has_any (x ∷ xs) (inl holds) = (0, x, omega arith, refl, holds)
   has_any (x ∷ xs) (inr has) = let any = has_any xs has in (suc any.0, any.1, omega arith, any.3, any.4)
 
+  -- what the first list has, both together have
   pub has_left : (xs ys : List X) → Has P xs → Has P (xs ++ ys)
   has_left [] ys has = absurd has
   has_left (x ∷ xs) ys (inl holds) = inl holds
   has_left (x ∷ xs) ys (inr has) = inr (has_left xs ys has)
 
+  -- what the second list has, both together have
   pub has_right : (xs ys : List X) → Has P ys → Has P (xs ++ ys)
   has_right [] ys has = has
   has_right (x ∷ xs) ys has = inr (has_right xs ys has)
 
+  -- what both together have, one of them has
   pub has_parts : (xs ys : List X) → Has P (xs ++ ys) → Has P xs ⊎ Has P ys
   has_parts [] ys has = inr has
   has_parts (x ∷ xs) ys (inl holds) = inl (inl holds)
@@ -140,6 +149,7 @@ module _ (P : Waiting → Type 0) where
       let parts = each_parts P at.before (gone ++ at.behind) (subst (Each P) sits all) in
       each_append P at.before (come ++ at.behind) parts.0 (each_append P come at.behind new (each_parts P gone at.behind parts.1).1)
 
+  -- what holds of those that waited and of those that came holds of those that wait after the act
   pub each_after : (a : Act) (s : ServerModel) → SitsIn a s → Each P s.kept.parked.waiting → Each P (comes a s)
       → Each P (waiting_after a s)
   each_after a s sits all new = each_around (around a) s.kept.parked.waiting (goes a) (comes a s) sits all new
@@ -189,6 +199,7 @@ module _ (test : Waiting → Bool) where
       let all = ap (count_by test) is in
       omega arith
 
+  -- those that pass after an act, and those that went, are those before it and those that came
   pub count_after : (a : Act) (s : ServerModel) → SitsIn a s
       → count_by test (waiting_after a s) + count_by test (goes a)
       ≡ count_by test s.kept.parked.waiting + count_by test (comes a s)

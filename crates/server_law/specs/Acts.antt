@@ -52,6 +52,7 @@ pub record Around : Type 0 where
   pub before : List Waiting
   pub behind : List Waiting
 
+-- what a server can do
 pub data Act : Type 0 where
   -- a put: the unit is in the queue, there is no room for it, or the call is ended
   Accepts : Unit → Act
@@ -80,19 +81,19 @@ pub data Act : Type 0 where
   -- a rank that waits and is idle gets a unit, or is told an end
   Gives : Around → Wish → List Server → Unit → Act
   Tells : Around → Wish → List Server → End → Act
-  -- of a rank that waits the next server is asked; that server has pinned a unit to it, which it is told, or had no unit, so that it is
-  -- idle; another server has a unit for it by now, and is among those still to be asked; and a hint that comes too late
+  -- For a rank that waits the next server is asked. That server has pinned a unit to it, which it is told, or had no unit, so that it is
+  -- idle. Another server has a unit for it by now, and is among those still to be asked. A hint comes too late.
   Asks_on : Around → Wish → Server → List Server → Act
   Passes_on : Around → Wish → Server → List Server → UnitNote → Act
   Wakes : Around → Wish → Server → List Server → Act
   Is_hinted : Around → Waiting → Server → Act
   Drops_hint : Server → Rank → ℕ → Act
-  -- the home of a rank asks for it: a unit is pinned to the rank, or its wish is kept; and its home is told that there is a unit by now
+  -- The home of a rank asks for it: a unit is pinned to the rank, or its wish is kept. Its home is told that there is a unit by now.
   Answers : Server → Wish → Unit → Act
   Declines : Server → Wish → Act
   Hints : Wish → Act
-  -- a unit is to move to a server where there is room: that server is asked for room; it promises it, or has no room; the unit goes, or
-  -- it is no longer free and the push is taken back; the push has ended, since there was no room or by its acknowledgement
+  -- A unit is to move to a server where there is room. That server is asked for room; it promises it, or has no room. The unit goes, or it
+  -- is no longer free and the push is taken back. The push has ended, since there was no room or by its acknowledgement.
   Queries : Server → UnitId → ℕ → Act
   Promises : Server → UnitId → ℕ → Act
   Refuses_push : Server → UnitId → ℕ → Act
@@ -111,8 +112,8 @@ pub data Act : Type 0 where
   Notices : Act
   Notes_own : Act
   Wants : Server → Act
-  -- server 0 starts a check; in the first wave another server takes its mark; after its tests a server sends the token on in the second
-  -- wave, or tells server 0 of the test that fails; the check ends without a verdict, where the token is, or as server 0 is told
+  -- Server 0 starts a check. In the first wave another server takes its mark. After its tests a server sends the token on in the second
+  -- wave, or tells server 0 which test fails. The check ends without a verdict, where the token is, or as server 0 is told.
   Starts : Act
   Marks : Server → Token → Act
   Passes : Server → Token → Act
@@ -129,15 +130,19 @@ pub data Act : Type 0 where
   Shuts_alone : Act
   Checks_alone : Act
 
+-- a saying to a rank
 abbrev pub to_rank : Rank → Message → ServerSaying
 to_rank rank message = record { to = by.Rank rank; message = message }
 
+-- a saying to a server
 abbrev pub to_server : Server → Message → ServerSaying
 to_server server message = record { to = by.Server server; message = message }
 
+-- a letter of a rank
 abbrev pub of_rank : Rank → Message → Heard
 of_rank rank message = record { from = by.Rank rank; message = message }
 
+-- a letter of a server
 abbrev pub of_server : Server → Message → Heard
 of_server server message = record { from = by.Server server; message = message }
 
@@ -145,11 +150,13 @@ of_server server message = record { from = by.Server server; message = message }
 abbrev pub batch_of : Rank → ℕ → BatchId
 batch_of rank request = record { rank = rank; number = request }
 
+-- the id of a rank's put
 abbrev pub unit_of : Rank → ℕ → UnitId
 unit_of rank request = record { rank = rank; number = request }
 
 -- What it takes: at most one letter.
 
+-- the letter that an act takes
 abbrev pub takes : Act → List Heard
 takes (Accepts unit) = of_rank unit.id.rank (tells.Put unit) ∷ []
 takes (Refuses unit) = of_rank unit.id.rank (tells.Put unit) ∷ []
@@ -219,6 +226,7 @@ goes (Wakes at wish from rest) = awaiting wish from rest ∷ []
 goes (Is_hinted at e from) = e ∷ []
 goes _ = []
 
+-- where the rank waits that the act is about
 abbrev pub around : Act → Option Around
 around (Gives at wish rest unit) = Some at
 around (Tells at wish rest end) = Some at
@@ -234,6 +242,7 @@ waiting_with None waiting [] = waiting
 waiting_with None waiting (e ∷ come) = waiting ++ e ∷ come
 waiting_with (Some at) waiting come = at.before ++ (come ++ at.behind)
 
+-- the ranks that wait after the act
 abbrev pub waiting_after : Act → ServerModel → List Waiting
 waiting_after a s = waiting_with (around a) s.kept.parked.waiting (comes a s)
 
@@ -241,6 +250,7 @@ waiting_after a s = waiting_with (around a) s.kept.parked.waiting (comes a s)
 abbrev pub unwished : Rank → List Wish → List Wish
 unwished rank wishes = filter (λ w. not (is_by rank w)) wishes
 
+-- the wishes after the act
 abbrev pub wishes_after : Act → List Wish → List Wish
 wishes_after (Answers from wish unit) wishes = unwished wish.rank wishes
 wishes_after (Declines from wish) wishes = unwished wish.rank wishes ++ wish ∷ []
@@ -251,6 +261,7 @@ wishes_after _ wishes = wishes
 abbrev pub given_back : Part → Queue → Queue
 given_back part q = if is_due part then without_common q (length part.bytes) else q
 
+-- the queue after the act
 abbrev pub queue_after : Act → Queue → Queue
 queue_after (Accepts unit) q = with_unit q unit
 queue_after (Grants wish unit) q = with_pin q unit.id wish.rank
@@ -276,39 +287,47 @@ turns (Stops_push to id length) = Some (Some (asks_room to id length), None)
 turns (Ends_push to id length) = Some (Some (has_sent to id length), None)
 turns _ = None
 
+-- the acknowledgement that is owed before and after the act, if it changes that
 abbrev pub debts : Act → Option (Option Debt × Option Debt)
 debts (Arrives from unit) = Some (None, Some (debt from unit.id))
 debts (Acks to id) = Some (Some (debt to id), None)
 debts _ = None
 
+-- the value after a change, or as it was without one
 abbrev pub turned : {X : Type 0} → Option (Option X × Option X) → Option X → Option X
 turned None x = x
 turned (Some change) x = change.1
 
+-- how many pushes were begun after the act
 abbrev pub pushes_after : Act → ℕ → ℕ
 pushes_after (Queries to id length) n = one_more n
 pushes_after _ n = n
 
+-- the common parts after the act
 abbrev pub parts_after : Act → Store → Store
 parts_after (Keeps rank request common) parts = with_fresh parts (batch_of rank request) common
 parts_after (Closes request batch accepted part) parts = changed (closed accepted) parts batch
 parts_after (Fetches_part rank request batch part) parts = changed fetched parts batch
 parts_after _ parts = parts
 
+-- the ranks that have finished after the act
 abbrev pub finished_after : Act → List Bool → List Bool
 finished_after (Notes_finish rank) finished = slice_set finished rank.0 true
 finished_after _ finished = finished
 
+-- whether the problem is done after the act
 abbrev pub done_after : Act → Bool → Bool
 done_after (Hears_done rank request) is_done = true
 done_after _ is_done = is_done
 
+-- whether all work is used up after the act
 abbrev pub exhausted_after : Act → Bool → Bool
 exhausted_after (Finds from t) exhausted = true
 exhausted_after (Hears_exhaust from) exhausted = true
 exhausted_after Finds_alone exhausted = true
 exhausted_after _ exhausted = exhausted
 
+-- whether the server is shut after the act
 abbrev pub shut_after : Act → Bool → Bool
 shut_after (Shuts from t) shut = true
 shut_after (Hears_shutdown from) shut = true
@@ -331,6 +350,7 @@ check_alone s = started (ring_at s) s.activity (askers s.kept) (fit_among s.kept
 abbrev pub tested_in : ℕ → Ring → Ring
 tested_in wave ring = if wave == 2 then with_tests ring else ring
 
+-- the ring after the act
 abbrev pub ring_after : Act → ServerModel → Ring
 ring_after Notes_own s = wanting s.kept.ring
 ring_after (Wants from) s = wanting s.kept.ring
@@ -347,6 +367,7 @@ ring_after Shuts_alone s = (check_alone s).ring.ring
 ring_after Checks_alone s = (check_alone s).ring.ring
 ring_after _ s = s.kept.ring
 
+-- the activity of the last notice after the act
 abbrev pub noted_after : Act → ServerModel → Option ℕ
 noted_after Notices s = Some s.activity
 noted_after Notes_own s = Some s.activity
@@ -372,6 +393,7 @@ does a s = record s {
 
 -- What it says and enters, by the server as it was before.
 
+-- server 0
 abbrev pub zeroth : Server
 zeroth = record { 0 = 0 }
 
@@ -383,6 +405,7 @@ onward s = behind s.config s.me 1
 abbrev pub to_others : ServerModel → Message → List ServerSaying
 to_others s message = map (λ t. to_server t message) (others s.config s.me)
 
+-- what the act says
 abbrev pub says : Act → ServerModel → List ServerSaying
 says (Accepts unit) s = to_rank unit.id.rank (tells.Accepted unit.id.number) ∷ []
 says (Refuses unit) s = to_rank unit.id.rank (tells.Full unit.id.number (charge_of s.kept.queue)) ∷ []
@@ -427,6 +450,7 @@ says _ s = []
 abbrev pub frees : Server → BatchId → Part → List Entry
 frees me batch part = if is_due part then enters.Freed me batch ∷ [] else []
 
+-- what the act enters
 abbrev pub entries : Act → ServerModel → List Entry
 entries (Accepts unit) s = enters.Accepted s.me unit.id ∷ []
 entries (Refuses unit) s = enters.Refused s.me unit.id (charge_of s.kept.queue) ∷ []

@@ -33,6 +33,7 @@ pin_at me Spent = None
 abbrev pub slot_of : Server → Lodged → Option Placed
 slot_of me u = option_map (λ pin. record { unit = u.unit; pin = pin }) (pin_at me u.place)
 
+-- the unit has the id
 abbrev pub of_id : UnitId → Lodged → Bool
 of_id id u = same_unit u.unit.id id
 
@@ -40,6 +41,7 @@ of_id id u = same_unit u.unit.id id
 abbrev pub UnitWeight : Type 0
 UnitWeight = Unit → Bool → ℕ
 
+-- the weight of a unit with a pin, or 0 without the unit
 abbrev pub pinned_weight : UnitWeight → Unit → Option (Option Rank) → ℕ
 pinned_weight f unit None = 0
 pinned_weight f unit (Some pin) = f unit (is_none pin)
@@ -48,11 +50,12 @@ pinned_weight f unit (Some pin) = f unit (is_none pin)
 abbrev pub weight_at : Server → UnitWeight → Lodged → ℕ
 weight_at me f u = pinned_weight f u.unit (pin_at me u.place)
 
+-- the weight of a unit of the queue
 abbrev pub weight_in : UnitWeight → Placed → ℕ
 weight_in f p = f p.unit (is_none p.pin)
 
--- the bag's units that are free or pinned at the server are the queue's, with the same pins, facts and bodies, and by every weight:
--- charge, counts and fits are some of them
+-- The bag's units that are free or pinned at the server are the queue's, with the same pins, facts and bodies. So they agree by every
+-- weight; charge, counts and fits are some of them.
 pub record HoldsUnits (all : List Lodged) (me : Server) (units : List Placed) : Type 0 where
   pub each : (id : UnitId) → unit_with id units ≡ option_and_then (slot_of me) (find (of_id id) all)
   pub distinct : HasDistinctIds units
@@ -62,6 +65,7 @@ pub record HoldsUnits (all : List Lodged) (me : Server) (units : List Placed) : 
 abbrev pub room_at : Server → Room → Option Promise
 room_at me p = if p.server.0 == me.0 then Some (record { id = p.id; length = p.length }) else None
 
+-- the promise for the unit in a list
 abbrev pub room_for : UnitId → List Promise → Option Promise
 room_for id promises = find (λ p. same_unit p.id id) promises
 
@@ -69,9 +73,11 @@ room_for id promises = find (λ p. same_unit p.id id) promises
 abbrev pub part_seen : Part → PartKept
 part_seen p = record { bytes = p.common; fetches = p.fetched; accepted = if p.closed then Some p.accepted else None }
 
+-- the part as the server keeps it, if it does
 abbrev pub part_at : Server → Part → Option PartKept
 part_at me p = if (p.server.0 == me.0) && not p.freed then Some (part_seen p) else None
 
+-- the part is of the batch
 abbrev pub of_batch : BatchId → Part → Bool
 of_batch batch p = same_batch p.batch batch
 

@@ -28,6 +28,7 @@ keep false false from request common = Keeps from request common
 abbrev pub keep_now : Kept → Rank → ℕ → List ℕ → Act
 keep_now k from request common = keep k.done (exceeds k.queue (length common)) from request common
 
+-- KeepCommon: the part is kept, refused, or the call is ended
 abbrev pub keep_rule : ServerModel → Rank → ℕ → List ℕ → Option Plan
 keep_rule s from request common = if expects_keep s from request common then plan (keep_now s.kept from request common) [] else None
 
@@ -54,19 +55,23 @@ can_fetch common p = is_fewer p.fetches p.accepted && nat_le (length p.bytes) co
 
 -- A batch ends.
 
+-- the batch of the part is closed
 abbrev pub close : ℕ → BatchId → ℕ → Option Part → Option Plan
 close request batch accepted None = None
 close request batch accepted (Some p) = plan (Closes request batch accepted p) []
 
+-- the rule of the end of a batch
 abbrev pub close_rule : ServerModel → Rank → ℕ → BatchId → ℕ → Option Plan
 close_rule s from request batch accepted =
     close request batch accepted (part_if (can_close from batch accepted s.kept.queue.common) (part_in s.kept.parts batch))
 
 -- A common part is fetched.
 
+-- the part's bytes go to the rank
 abbrev pub share : Rank → ℕ → BatchId → Option Part → Option Plan
 share from request batch None = None
 share from request batch (Some p) = plan (Fetches_part from request batch p) []
 
+-- the rule of the fetch of a common part
 abbrev pub share_rule : ServerModel → Rank → ℕ → BatchId → Option Plan
 share_rule s from request batch = share from request batch (part_if (can_fetch s.kept.queue.common) (part_in s.kept.parts batch))

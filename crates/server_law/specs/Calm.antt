@@ -37,6 +37,7 @@ abbrev pub EventsKeepOnce : Type 0
 EventsKeepOnce =
     (s : ServerModel) (from : Actor) (letter : Letter) (x : Served) → WaitOnce s → serve s from letter ≡ Some x → WaitOnce x.state
 
+-- each event of a server that is calm leaves it calm
 abbrev pub EventsKeepCalm : Type 0
 EventsKeepCalm =
     (s : ServerModel) (from : Actor) (letter : Letter) (x : Served) → WaitOnce s → IsCalm s → serve s from letter ≡ Some x

@@ -19,9 +19,11 @@ pub record Served : Type 0 where
 abbrev pub sent_to : ServerModel → Actor → ℕ
 sent_to s to = slice_index_or s.sent (place_of s.config to) 0
 
+-- the server with one letter more sent to the actor
 abbrev pub counted : ServerModel → Actor → ServerModel
 counted s to = record s { sent = slice_set s.sent (place_of s.config to) (sent_to s to + 1) }
 
+-- the saying as it is sent
 abbrev pub posted : ServerModel → ServerSaying → Sending
 posted s x = sending s.clock (sent_to s x.to) x.to x.message
 
@@ -30,6 +32,7 @@ abbrev pub stamped : ServerModel → List ServerSaying → List Sending
 stamped s [] = []
 stamped s (y ∷ ys) = posted s y ∷ stamped (counted s y.to) ys
 
+-- the server with these letters more sent
 abbrev pub all_counted : ServerModel → List ServerSaying → ServerModel
 all_counted s [] = s
 all_counted s (y ∷ ys) = all_counted (counted s y.to) ys
@@ -40,9 +43,11 @@ all_counted s (y ∷ ys) = all_counted (counted s y.to) ys
 abbrev pub done : Act → ServerModel → ServerModel
 done a s = all_counted (does a s) (says a s)
 
+-- the letters of an act
 abbrev pub sends : Act → ServerModel → List Sending
 sends a s = stamped (does a s) (says a s)
 
+-- what was served, after these letters and entries
 abbrev pub joined : List Sending → List Entry → Served → Served
 joined sends entries x = record x { sends = sends ++ x.sends; entries = entries ++ x.entries }
 
@@ -51,6 +56,7 @@ abbrev pub carried : List Act → ServerModel → Served
 carried [] s = record { state = s; sends = []; entries = [] }
 carried (a ∷ more) s = joined (sends a s) (entries a s) (carried more (done a s))
 
+-- the server after these acts
 abbrev pub all_done : List Act → ServerModel → ServerModel
 all_done [] s = s
 all_done (a ∷ more) s = all_done more (done a s)

@@ -31,6 +31,7 @@ tests at_zeroth None from t = Passes from t
 tests true (Some why) from t = Gives_up from t
 tests false (Some why) from t = Fails from t why
 
+-- the tests of the second wave, by the server as it is
 abbrev pub tests_now : ServerModel → Server → Token → Act
 tests_now s from t = tests (s.me.0 == 0) (first_failing (is_quiet s) s.kept.ring.mark s.activity (fit_among s.kept t.asked)) from t
 
@@ -44,12 +45,15 @@ verdict false (first ∷ more) from t = plan (Finds from t) (tells_idle ends_by.
 abbrev pub visit_zeroth : ServerModel → Server → Token → Option Plan
 visit_zeroth s from t = if t.wave == 1 then plan (tests_now s from t) [] else verdict s.kept.exhausted t.asked from t
 
+-- a token at a server other than 0
 abbrev pub visit_other : ServerModel → Server → Token → Option Plan
 visit_other s from t = if t.wave == 1 then plan (marks (is_quiet s) from t) [] else plan (tests_now s from t) []
 
+-- a token at a server
 abbrev pub visit : ServerModel → Server → Token → Option Plan
 visit s from t = if s.me.0 == 0 then visit_zeroth s from t else visit_other s from t
 
+-- Token: a visit, if the token is expected
 abbrev pub token_rule : ServerModel → Server → Token → Option Plan
 token_rule s from t = if expects (ring_at s) from t then visit s from t else None
 
@@ -61,5 +65,6 @@ failed_rule s from t why = if is_running (ring_at s) t then plan (Hears_failed f
 abbrev pub exhaust_rule : ServerModel → Server → Option Plan
 exhaust_rule s from = if from.0 == 0 then plan (Hears_exhaust from) (tells_idle ends_by.Exhausted ∷ []) else None
 
+-- Shutdown: the servers end
 abbrev pub shutdown_rule : ServerModel → Server → Option Plan
 shutdown_rule s from = if from.0 == 0 then plan (Hears_shutdown from) [] else None

@@ -37,12 +37,14 @@ abbrev pub tells_one : End → Around → Waiting → Option Server → List Act
 tells_one end at e None told passed = Tells at e.wish e.to_ask end ∷ told
 tells_one end at e (Some t) told passed = passed
 
+-- each idle rank of those that wait is told the end
 abbrev pub tells_all : End → List Waiting → List Waiting → List Act
 tells_all end before [] = []
 tells_all end before (e ∷ behind) =
     tells_one end (record { before = before; behind = behind }) e e.asked (tells_all end before behind)
     (tells_all end (before ++ e ∷ []) behind)
 
+-- each idle rank is told the end
 abbrev pub tells_idle : End → Decider
 tells_idle end s = tells_all end [] s.kept.parked.waiting
 
@@ -53,10 +55,12 @@ abbrev pub is_noted : Option ℕ → ℕ → Bool
 is_noted None activity = false
 is_noted (Some noted) activity = noted == activity
 
+-- a notice, which server 0 notes by itself
 abbrev pub notice : Bool → List Act
 notice true = Notes_own ∷ []
 notice false = Notices ∷ []
 
+-- a quiet server that has changed gives notice
 abbrev pub notices : Decider
 notices s = if is_quiet s && not (is_noted s.kept.noted s.activity) then notice (s.me.0 == 0) else []
 
@@ -68,11 +72,14 @@ finds_alone Exhausted waiting = Finds_alone ∷ tells_all ends_by.Exhausted [] w
 finds_alone Shutdown waiting = Shuts_alone ∷ []
 finds_alone _ waiting = Checks_alone ∷ []
 
+-- a check is started; a server that is alone judges it at once
 abbrev pub starts : ServerModel → List Act
 starts s = if s.config.servers == 1 then finds_alone (check_alone s).step s.kept.parked.waiting else Starts ∷ []
 
+-- a check is started if it may be
 abbrev pub checks : Decider
 checks s = if may_start (ring_at s) (is_quiet s) then starts s else []
 
+-- what follows each event
 abbrev pub ends_event : List Decider
 ends_event = notices ∷ checks ∷ []

@@ -13,5 +13,6 @@ abbrev pub fetch : Rank → ℕ → UnitId → Option Placed → Option Plan
 fetch from request id None = None
 fetch from request id (Some p) = plan (Fetches from request id p.unit) []
 
+-- Fetch: the unit goes to the rank to which it is pinned
 abbrev pub fetch_rule : ServerModel → Rank → ℕ → UnitId → Option Plan
 fetch_rule s from request id = fetch from request id (find (is_pinned_as id from) s.kept.queue.units)

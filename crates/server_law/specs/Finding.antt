@@ -18,19 +18,24 @@ use Rattle.server_law.specs.State.{Kept}
 
 -- Units.
 
+-- some unit of the list has the id
 abbrev pub has_unit : UnitId → List Placed → Bool
 has_unit id units = list_any (λ p. same_unit (id_of p) id) units
 
+-- some promise of the list is for the id
 abbrev pub has_promise : UnitId → List Promise → Bool
 has_promise id promises = list_any (λ p. same_unit p.id id) promises
 
+-- the pin is to the rank
 abbrev pub is_pin : Option Rank → Rank → Bool
 is_pin None rank = false
 is_pin (Some to) rank = to.0 == rank.0
 
+-- the unit has the id, and is pinned to the rank
 abbrev pub is_pinned_as : UnitId → Rank → Placed → Bool
 is_pinned_as id rank p = same_unit (id_of p) id && is_pin p.pin rank
 
+-- the unit has the id, and is free
 abbrev pub is_free_as : UnitId → Placed → Bool
 is_free_as id p = same_unit (id_of p) id && is_none p.pin
 
@@ -42,6 +47,7 @@ best_for k wish = best_at k.queue wish.rank wish.types
 abbrev pub exceeds : Queue → ℕ → Bool
 exceeds queue n = nat_lt queue.limit (charge_of queue + n)
 
+-- the unit is permitted to who made the wish
 abbrev pub permits : Unit → Wish → Bool
 permits unit wish = suits unit.kind unit.target wish
 
@@ -52,6 +58,7 @@ pub record Place : Type 0 where
   pub at : Around
   pub here : Waiting
 
+-- a place in a list with one element more before it
 abbrev pub behind_one : Waiting → Option Place → Option Place
 behind_one e None = None
 behind_one e (Some p) = Some (record p { at = record p.at { before = e ∷ p.at.before } })
@@ -62,9 +69,11 @@ place_in test [] = None
 place_in test (e ∷ waiting) =
     if test e then Some (record { at = record { before = []; behind = waiting }; here = e }) else behind_one e (place_in test waiting)
 
+-- an idle rank to which the unit is permitted
 abbrev pub is_idle_for : Unit → Waiting → Bool
 is_idle_for unit e = is_idle e && permits unit e.wish
 
+-- an idle rank to which it is permitted, and which its target names before others
 abbrev pub is_idle_first : Unit → Waiting → Bool
 is_idle_first unit e = is_idle_for unit e && is_soft_for unit.target e.wish.rank
 

@@ -37,9 +37,11 @@ IsOpen b (Some common) = (p : Part) → part_of b common.batch ≡ Some p → p.
 abbrev pub Does : Bag → Rank → Status → Type 0
 Does b rank status = (r : RankState) × (rank_at b rank ≡ Some r) × (r.status ≡ status)
 
+-- the rank asks by this reserve
 abbrev pub AsksFor : Bag → Wish → Type 0
 AsksFor b wish = Does b wish.rank (is_at.Asking wish.request wish.types)
 
+-- the rank tries by this request
 abbrev pub TriesFor : Bag → Wish → Type 0
 TriesFor b wish = Does b wish.rank (is_at.Trying wish.request wish.types)
 
@@ -99,8 +101,8 @@ Needs found (Arrives from unit) b me = (unit_of b unit.id ≡ Some (record { uni
 Needs found (Withdraws from id) b me = IsHeldAt b from id × PromisesAreSingle b.promises
 Needs found a b me = Unit {0}
 
--- the law: from a bag that agrees with the server and in which no common part is due, the entries of an act that is sure are steps of
--- the bag, where it has what the act needs. The bag agrees with the server afterwards, and no part is due
+-- The law. Let a bag agree with the server, with no common part due, and have what the act needs. Then the entries of an act that is sure
+-- are steps of the bag. The bag agrees with the server afterwards, and no part is due.
 abbrev pub ActsAreLegal : Type 0
 ActsAreLegal =
     (found : Bag → Bool) (b : Bag) (s : ServerModel) (a : Act) → ServerAgrees b s → has_due b ≡ false → SitsIn a s → Sure a s

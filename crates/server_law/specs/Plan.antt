@@ -4,13 +4,16 @@ use Rattle.server_law.specs.Acts.{Act}
 use Rattle.server_law.specs.Carried.{all_done, done}
 use Rattle.server_law.specs.State.{ServerModel}
 
+-- what follows, by the server as it is by then
 abbrev pub Decider : Type 0
 Decider = ServerModel → List Act
 
+-- the act that takes a letter, and what follows it
 pub record Plan : Type 0 where
   pub first : Act
   pub follow : List Decider
 
+-- a letter that has a step, with its plan
 abbrev pub plan : Act → List Decider → Option Plan
 plan first follow = Some (record { first = first; follow = follow })
 

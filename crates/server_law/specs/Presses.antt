@@ -10,6 +10,7 @@ abbrev pub queries : Option PushQuery → List Act
 queries None = []
 queries (Some q) = Queries q.to q.id q.length ∷ []
 
+-- after a put that was accepted a push may begin
 abbrev pub presses : Bool → Decider
 presses false s = []
 presses true s = queries (query_of s.config s.me s.kept.pushing s.kept.queue)

@@ -38,14 +38,17 @@ put_now k unit = put k.done (is_over k.queue unit) unit
 
 -- A unit that has become free is settled: the rank that it goes to gets it; if there is no such rank, the wishes that it takes off go.
 
+-- the unit goes to the rank that waits there; without one its hints go out
 abbrev pub gives : Kept → Unit → Option Place → List Act
 gives k unit None = hint_all unit k.parked.wishes
 gives k unit (Some p) = Gives p.at p.here.wish p.here.to_ask unit ∷ []
 
+-- a free unit goes to the first idle rank that takes it
 abbrev pub settles_as : Kept → Option Placed → List Act
 settles_as k None = []
 settles_as k (Some p) = gives k p.unit (taker p.unit k.parked.waiting)
 
+-- the free unit of the id is settled
 abbrev pub settles : UnitId → Decider
 settles id s = settles_as s.kept (find (is_free_as id) s.kept.queue.units)
 

@@ -20,5 +20,6 @@ reserve false false None wish = Parks wish
 abbrev pub reserve_now : Kept → Wish → Act
 reserve_now k wish = reserve k.done k.exhausted (best_for k wish) wish
 
+-- Reserve: a unit is pinned, the call is ended, or the rank waits
 abbrev pub reserve_rule : ServerModel → Wish → Option Plan
 reserve_rule s wish = if runs_at_home s wish.rank then plan (reserve_now s.kept wish) (asks_on wish.rank ∷ []) else None

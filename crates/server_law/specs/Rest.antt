@@ -27,6 +27,7 @@ IsHereOrSpent me (Pinned at rank) = at ≡ me
 IsHereOrSpent me (Travelling to) = ⊥
 IsHereOrSpent me Spent = Unit {0}
 
+-- the unit is here or spent
 abbrev pub IsKeptAt : Server → Placed → Type 0
 IsKeptAt me u = IsHereOrSpent me u.place
 
@@ -35,6 +36,7 @@ pub record IsAllAt (lodged : List Placed) (rooms : List Promise) (me : Server) :
   pub units : All (IsKeptAt me) lodged
   pub promises : All (λ (p : Promise). p.server ≡ me) rooms
 
+-- the server has all units and promises of the bag
 abbrev pub HasAll : Bag → Server → Type 0
 HasAll b me = IsAllAt b.units b.promises me
 

@@ -19,6 +19,7 @@ use Rattle.reserve_path.specs.declared.wishes.Wish.{Wish}
 abbrev pub idle : Wish → List Server → Waiting
 idle wish to_ask = record { wish = wish; asked = None; to_ask = to_ask }
 
+-- a rank that waits while a server is asked for it
 abbrev pub awaiting : Wish → Server → List Server → Waiting
 awaiting wish asked to_ask = record { wish = wish; asked = Some asked; to_ask = to_ask }
 
@@ -27,6 +28,7 @@ pub record Debt : Type 0 where
   pub to : Server
   pub id : UnitId
 
+-- an acknowledgement that is owed
 abbrev pub debt : Server → UnitId → Debt
 debt to id = record { to = to; id = id }
 
@@ -64,6 +66,7 @@ pub record ServerModel : Type 0 where
   pub trouble : Option Trouble
   pub kept : Kept
 
+-- a server before its first event
 abbrev pub start : Config → Server → ServerModel
 start config me = record {
   config = config;
@@ -93,6 +96,7 @@ start config me = record {
 abbrev pub is_home : Config → Server → Rank → Bool
 is_home config me rank = home_of config.servers rank == me.0
 
+-- the rank waits here
 abbrev pub is_waiting : Kept → Rank → Bool
 is_waiting k rank = list_any (is_of rank) k.parked.waiting
 

@@ -42,6 +42,7 @@ rank_rule s from (tells.Done request) = done_rule s from request
 rank_rule s from tells.Finish = finish_rule s from
 rank_rule s from _ = None
 
+-- the rule of a letter between servers
 abbrev pub server_rule : ServerModel → Server → Message → Option Plan
 server_rule s from (tells.Ask rank request types) = ask_rule s from (record { rank = rank; request = request; types = types })
 server_rule s from (tells.AskGrant rank request note) = grant_rule s from rank request note
@@ -81,6 +82,7 @@ raises (tells.Failed t why) = false
 raises tells.Shutdown = false
 raises _ = true
 
+-- the activity after an event
 abbrev pub raised : Bool → ℕ → ℕ
 raised true activity = activity + 1
 raised false activity = activity

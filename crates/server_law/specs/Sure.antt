@@ -39,6 +39,7 @@ abbrev pub Sits : Option Around → List Waiting → List Waiting → Type 0
 Sits None waiting gone = gone ≡ []
 Sits (Some at) waiting gone = waiting ≡ at.before ++ (gone ++ at.behind)
 
+-- the rank that the act is about waits where the act says
 abbrev pub SitsIn : Act → ServerModel → Type 0
 SitsIn a s = Sits (around a) s.kept.parked.waiting (goes a)
 

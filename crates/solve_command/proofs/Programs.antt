@@ -26,6 +26,7 @@ pub first_program : (settings : Settings) (jobs : List Job) (p : PuzzleProgram) 
 first_program settings jobs p settings_are jobs_are =
     placed_more (IsProgramOf settings jobs) [] p (settings_are, jobs_are) (λ k q none. absurd cc)
 
+-- programs are those of the ranks with one more that has no jobs
 pub more_programs : (settings : Settings) (jobs : List Job) (programs : List PuzzleProgram) (p : PuzzleProgram) →
     0 < length programs → p.settings ≡ settings → p.jobs ≡ None → ArePrograms settings jobs programs →
     ArePrograms settings jobs (programs ++ p ∷ [])

@@ -20,6 +20,7 @@ module _ (settings : Settings) (IsOf : Config → Type 0) (inline : Bool) (befor
     none_run : IsRunWith {O = Outcome} IsOf inline before after None
     none_run = record { numbers = tt; threaded = λ e. tt; untouched = λ e. none }
 
+    -- a `solve` that fails before its run ends as memory that ran out
     pub solved_early : (tail : Reported Outcome → List ℕ) → Solves settings tail IsOf inline before after (Some Memory) None
     solved_early tail = record {
       ends = ends_early AreJobs RefusesLine (IsKept (λ ranks. ArePrograms settings) FollowsPuzzles)
@@ -28,6 +29,7 @@ module _ (settings : Settings) (IsOf : Config → Type 0) (inline : Bool) (befor
       run = none_run;
     }
 
+    -- a `drill` that fails before its run ends as memory that ran out
     pub drilled_early : (count seed : ℕ) → ReadsNothing before after
         → Drills count seed settings IsOf inline before after (Some Memory) None
     drilled_early count seed unread = record {

@@ -16,8 +16,8 @@ use Rattle.solve_command.specs.Puzzles.{AreJobs, ArePrograms}
 use Rattle.solve_command.specs.Told.{IsReported, IsSummed}
 use Rattle.spending_law.specs.Most.{most_calls}
 
--- the ends of a run over puzzles and batches with these settings, of which this is told; in line its stamps run out only if the jobs are
--- so many that one rank may make 2^34 calls
+-- The ends of a run over puzzles and batches with these settings, of which this is written. In line its stamps run out only if one rank may
+-- make 2^34 calls over its jobs.
 abbrev pub EndsWith : Settings → Bool → (List Job → Reported Outcome → List ℕ → Type 0) → Scene → Scene → Option (Fault LineWhy) →
     Option (Kept Outcome) → Type 0
 EndsWith settings inline tells before after fault kept =

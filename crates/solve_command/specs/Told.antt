@@ -32,11 +32,14 @@ IsTold tail settings (Summary count seed) jobs r told = IsSummed settings count 
 
 -- A tail: the counts of the kept ledger, and its text, if they are asked for.
 
+-- the counts of the ledger, if they are asked for
 abbrev pub stats_behind : Bool → Reported Outcome → List ℕ
 stats_behind asked r = if asked then stats_text r.ledger (length r.left) else []
 
+-- the text of the ledger, if it is asked for
 abbrev pub ledger_behind : Bool → Reported Outcome → List ℕ
 ledger_behind asked r = if asked then text r.config r.ledger else []
 
+-- what is written after the report
 abbrev pub behind : Extras → Reported Outcome → List ℕ
 behind extras r = stats_behind extras.stats r ++ ledger_behind extras.ledger r

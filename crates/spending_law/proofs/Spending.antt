@@ -1,5 +1,5 @@
--- How many calls a rank makes. Each unit that waits to be put has what its put, the reserve and the fetch that bring it to a rank, and all
--- that is made of it cost; each batch that waits, its beginning and its end. What is sent carries its part to whoever gets it.
+-- How many calls a rank makes. Each unit that waits to be put has what its put, its reserve, its fetch and all that is made of it cost.
+-- Each batch that waits has what its beginning and its end cost. What is sent carries its part to whoever gets it.
 use Rattle.std.proofs.Common.{◌≡◌, ◌≤◌, ◌+◌, ◌*◌, ℕ, Bool, true, false, cond, ◌||◌, List, [], ◌∷◌, ◌++◌, map, length, Option, Some, None}
 use Rattle.std.proofs.Common.{refl, sym, ap, ◌∙◌, arith, sum_by}
 use Rattle.std.specs.Prelude.{ℤ, is_some}
@@ -42,6 +42,7 @@ unfolding begins
 begins_none [] tasks = refl
 begins_none (unit ∷ units) tasks = begins_none units tasks
 
+-- a number if the test passes, and 0 otherwise
 abbrev pub if_so : Bool → ℕ → ℕ
 if_so true n = n
 if_so false n = 0

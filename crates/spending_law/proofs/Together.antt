@@ -262,7 +262,7 @@ firsts budget grain jobs (suc (suc n)) =
     let none : first_credit budget grain jobs (record { 0 = suc n }) ≡ its false = ap its other in
     omega (arith, none, firsts budget grain jobs (suc n))
 
--- in a legal run of puzzle programs, finished or not, all ranks have begun so many calls at most
+-- the bound on the calls that all ranks have begun in a legal run of puzzle programs, finished or not
 pub few_calls : (config : Config) (ledger : List Entry) (last : Bag) (settings : Settings) (jobs : List Job)
     → IsRun (start config) ledger last → AreUnderWay config ledger last settings jobs
     → all_begun config ledger last ≤ most_calls settings.budget settings.grain config.ranks jobs

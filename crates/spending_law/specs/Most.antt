@@ -13,6 +13,7 @@ abbrev pub is_batch : Job → Bool
 is_batch (Puzzle g) = false
 is_batch (Batch common items) = true
 
+-- how many batches the jobs have
 abbrev pub batches : List Job → ℕ
 batches jobs = count_by is_batch jobs
 

@@ -10,7 +10,7 @@ one_blank = 0 ∷ []
 one_full : Cells
 one_full = 1 ∷ []
 
--- its one digit stands once in each group
+-- its one digit is there once in each group
 each_once : (group : ℕ → ℕ) → group 0 ≡ 0 → HasEachOnce 1 group (1 ∷ [])
 unfolding how_many
 each_once group same zero (suc zero) below some fits = rw same refl

@@ -81,6 +81,6 @@ grown_distinct m (suc depth) b x grid =
     (λ t. tt)
     (λ fine. cell_distinct m rec b x (grown_sound m depth) (grown_distinct m depth) grid (fewest m x) refl)
 
--- no solution node stands twice
+-- no solution node is there twice
 pub tree_distinct : (m b : ℕ) (g : Cells) → IsGrid m g → IsDistinct (solutions (tree m b g))
 tree_distinct m b g grid = grown_distinct m (suc b) b g grid

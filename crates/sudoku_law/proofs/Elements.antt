@@ -46,7 +46,7 @@ Contains-filter p (y ∷ xs) x there passes =
           (λ t. Contains-later y x (filter p xs) (Contains-filter p xs x later passes)) (λ f. Contains-filter p xs x later passes)
     ]
 
--- no element stands twice
+-- no element is there twice
 abbrev pub IsDistinct : {X : Type 0} → List X → Type 0
 IsDistinct [] = Unit {0}
 IsDistinct (x ∷ xs) = (Contains xs x → ⊥) × IsDistinct xs

@@ -1,5 +1,5 @@
--- The literal rule (each digit once in every row, column and box) and the rule by pairs (no two cells that share have
--- one digit) say the same: as many cells as digits, and no two equal, so each digit stands once.
+-- The literal rule is that each digit is once in every row, column and box. The rule by pairs is that no two cells that share have one
+-- digit. They say the same: as many cells as digits, and no two equal, so each digit is there once.
 use Rattle.std.proofs.Common.{◌≡◌, ◌≢◌, ◌<◌, ◌≤◌, ℕ, zero, suc, ◌+◌, ◌*◌, ◌/◌, ◌%◌, Bool, true, false, ◌&&◌, eqb, length, get_or, refl, sym}
 use Rattle.std.proofs.Common.{ap, ◌∙◌, inl, inr, arith}
 use Rattle.std.proofs.lemmas.Bool.{and_from, and_parts, or_cases, or_left, or_right, eqb-true, eq-eqb, ne_eqb}
@@ -22,7 +22,7 @@ AreApart n group s = (i j : ℕ) → j < i → i < n → group i ≡ group j →
 abbrev has : (ℕ → ℕ) → Cells → ℕ → ℕ → ℕ → Bool
 has group s u d cell = eqb (group cell) u && eqb (get_or s cell 0) d
 
--- two cells of one group do not have one digit, where each digit stands once there
+-- two cells of one group do not have one digit, if each digit is there once
 once_apart : (m : ℕ) (group : ℕ → ℕ) (s : Cells) → length s ≡ size m → HasDigits (length s) (side m) s
     → ((i : ℕ) → i < size m → group i < side m) → HasEachOnce m group s → AreApart (length s) group s
 once_apart m group s long digits within each i j before below same equal =
@@ -77,7 +77,7 @@ pairwise_from_solution m g s is = record {
   ];
 }
 
--- one digit from 1 to w is the one that stands there, so over all of them a cell counts as often as the test says
+-- one digit from 1 to w is the one that is there, so over all of them a cell counts as often as the test says
 digit_once : (w d : ℕ) (b : Bool) → 1 ≤ d → d ≤ w → sum_to w (λ k. one_if (b && eqb d (k + 1))) ≡ one_if b
 digit_once w d false low high = sum_to_none w (λ k. 0) (λ k less. refl)
 digit_once w (suc d) true low high =
@@ -101,7 +101,7 @@ all_digits n w u group s digits =
     (λ cell less. digit_once w (get_or s cell 0) (eqb (group cell) u) (digits cell less).0 (digits cell less).1)
     ∙ sym (how_many_is n (λ cell. eqb (group cell) u))
 
--- in a group of w cells, no two of them equal, each of w digits stands once
+-- in a group of w cells, no two of them equal, each of w digits is there once
 each_stands : (n w u d : ℕ) (group : ℕ → ℕ) (s : Cells) → HasDigits n w s → AreApart n group s → how_many n (λ cell. eqb (group cell) u) ≡ w
     → 1 ≤ d → d ≤ w → how_many n (has group s u d) ≡ 1
 each_stands n w u zero group s digits apart total low high = absurd (omega arith)

@@ -10,7 +10,7 @@ use Rattle.sudoku_law.specs.Solutions.{IsSolutionList}
 use Rattle.sudoku_law.proofs.Elements.{Contains-head, Contains-later, head_cases, none_there}
 use Rattle.sudoku_law.proofs.TextOrder.{text_order}
 
--- one grid stands before another
+-- one grid comes before another
 abbrev IsBefore : Cells → Cells → Type 0
 IsBefore a b = slice_cmp nat_cmp a b ≡ Less
 
@@ -26,7 +26,7 @@ rises_on x xs rises k within =
     let here : IsBefore (get_or xs k []) (get_or (x ∷ xs) (suc k + 1) []) = rises (suc k) (omega arith) in
     rw e at here
 
--- the first stands before each of the others
+-- the first comes before each of the others
 first_before : (x : Cells) (xs : List Cells) → Rises (x ∷ xs) → (k : ℕ) → k < length xs → IsBefore x (get_or xs k [])
 first_before x xs rises zero within = rises 0 (omega arith)
 first_before x xs rises (suc k) within =

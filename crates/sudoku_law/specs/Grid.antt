@@ -1,8 +1,9 @@
 -- Sudoku's plain rules, for boxes of side m: a grid has m * m rows, columns and boxes of m * m cells each.
--- A grid is the list of its cells by rows, each the digit that stands there or 0 for blank.
+-- A grid is the list of its cells by rows, each the digit that is there or 0 for blank.
 use Rattle.std.specs.Prelude.{◌≡◌, ◌≢◌, ◌<◌, ◌≤◌, ℕ, ◌+◌, ◌*◌, zero, suc, ◌/◌, ◌%◌, ◌==◌, nat_lt, Bool, false, ◌&&◌, ◌||◌, not, List, []}
 use Rattle.std.specs.Prelude.{◌∷◌, length, slice_index, Option, Some, None, IsTrue, if◌then◌else◌, filter}
 
+-- the cells of a grid, by rows
 abbrev pub Cells : Type 0
 Cells = List ℕ
 
@@ -14,12 +15,15 @@ side m = m * m
 abbrev pub size : ℕ → ℕ
 size m = side m * side m
 
+-- the row of a cell
 abbrev pub row_of : ℕ → ℕ → ℕ
 row_of m cell = cell / side m
 
+-- the column of a cell
 abbrev pub column_of : ℕ → ℕ → ℕ
 column_of m cell = cell % side m
 
+-- the box of a cell
 abbrev pub box_of : ℕ → ℕ → ℕ
 box_of m cell = row_of m cell / m * m + column_of m cell / m
 
@@ -28,7 +32,7 @@ unfoldable pub how_many : ℕ → (ℕ → Bool) → ℕ
 how_many zero p = 0
 how_many (suc n) p = how_many n p + (if p n then 1 else 0)
 
--- each digit stands in exactly one cell of every group: group tells a cell's row, column or box
+-- each digit is in exactly one cell of every group: group tells a cell's row, column or box
 abbrev pub HasEachOnce : ℕ → (ℕ → ℕ) → Cells → Type 0
 HasEachOnce m group s =
     (u d : ℕ) → u < side m → 1 ≤ d → d ≤ side m → how_many (size m) (λ cell. (group cell == u) && (slice_index s cell == d)) ≡ 1
@@ -47,7 +51,7 @@ pub record IsSolution (m : ℕ) (g s : Cells) : Type 0 where
   pub columns : HasEachOnce m (column_of m) s
   pub boxes : HasEachOnce m (box_of m) s
 
--- two cells stand in one row, column or box
+-- two cells are in one row, column or box
 abbrev pub shares : ℕ → ℕ → ℕ → Bool
 shares m i j = (row_of m i == row_of m j) || (column_of m i == column_of m j) || (box_of m i == box_of m j)
 
@@ -65,10 +69,11 @@ HasConflict m g =
 abbrev pub clash : ℕ → Cells → ℕ → ℕ → Bool
 clash m g i j = shares m i j && (slice_index g i == slice_index g j) && not (slice_index g i == 0)
 
+-- some two cells clash
 abbrev pub conflict : ℕ → Cells → Bool
 conflict m g = any_below (length g) (λ i. any_below i (λ j. clash m g i j))
 
--- the digit stands in the cell's row, column or box
+-- the digit is in the cell's row, column or box
 abbrev pub used : ℕ → Cells → ℕ → ℕ → Bool
 used m g cell d = any_below (length g) (λ j. shares m cell j && (slice_index g j == d))
 
@@ -77,13 +82,15 @@ unfoldable pub count_up : ℕ → ℕ → List ℕ
 count_up from zero = []
 count_up from (suc n) = from ∷ count_up (from + 1) n
 
--- the digits that can stand in a blank cell, rising
+-- the digits that can go into a blank cell, rising
 abbrev pub candidates : ℕ → Cells → ℕ → List ℕ
 candidates m g cell = filter (λ d. not (used m g cell d)) (count_up 1 (side m))
 
+-- how many candidates a cell has
 abbrev pub choices : ℕ → Cells → ℕ → ℕ
 choices m g cell = length (candidates m g cell)
 
+-- the cell is one of the grid, and blank
 pub record IsBlank (g : Cells) (cell : ℕ) : Type 0 where
   pub within : cell < length g
   pub blank : slice_index g cell ≡ 0
@@ -99,9 +106,11 @@ abbrev pub fewer : ℕ → Cells → ℕ → Option ℕ → Option ℕ
 fewer m g n None = if slice_index g n == 0 then Some n else None
 fewer m g n (Some c) = if (slice_index g n == 0) && nat_lt (choices m g n) (choices m g c) then Some n else Some c
 
+-- the first of the first n cells with the fewest candidates
 unfoldable pub fewest_below : ℕ → Cells → ℕ → Option ℕ
 fewest_below m g zero = None
 fewest_below m g (suc n) = fewer m g n (fewest_below m g n)
 
+-- the first blank cell with the fewest candidates
 abbrev pub fewest : ℕ → Cells → Option ℕ
 fewest m g = fewest_below m g (length g)

@@ -6,5 +6,6 @@ use Rattle.sudoku_law.specs.Grid.{Cells}
 abbrev pub sign : ℕ → ℕ
 sign d = if nat_lt d 10 then 48 + d else 55 + d
 
+-- the signs of the cells
 abbrev pub text_of : Cells → List ℕ
 text_of g = map sign g

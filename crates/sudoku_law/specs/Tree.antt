@@ -3,7 +3,7 @@ use Rattle.std.specs.Prelude.{ℕ, ◌+◌, zero, suc, ◌/◌, nat_lt, Bool, tr
 use Rattle.std.specs.Prelude.{Some, None, if◌then◌else◌}
 use Rattle.sudoku_law.specs.Grid.{Cells, conflict, candidates, fewest}
 
--- what stands at and below a node, or at a node's children from one on
+-- what is at and below a node, or at a node's children from one on
 pub data Tree : Type 0 where
   -- nothing: the node is dead, or there is no further child
   end : Tree
@@ -74,9 +74,11 @@ pub record Met : Type 0 where
   pub children : List (ℕ × Cells)
   pub over : Bool
 
+-- nothing was met
 abbrev pub nothing : Met
 nothing = record { solutions = []; children = []; over = false }
 
+-- what was met in two walks, one after the other
 abbrev pub both : Met → Met → Met
 both a b = record { solutions = a.solutions ++ b.solutions; children = a.children ++ b.children; over = a.over || b.over }
 

@@ -24,7 +24,7 @@ pub fn tree_is_its_node()
 {}
 
 /// Whatever the budget, each solution node of a grid's tree is a solution of the grid (`law`), and none
-/// stands twice (`once`). A full grid without conflict is its own solution (`full`), and a full grid has no
+/// is there twice (`once`). A full grid without conflict is its own solution (`full`), and a full grid has no
 /// other (`only`).
 pub fn solution_nodes_are_solutions()
     ensures law { (m b : ℕ) (g s : Cells) → IsGrid m g → Contains (solutions (tree m b g)) s →

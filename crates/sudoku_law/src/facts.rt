@@ -22,8 +22,8 @@ pub fn solution_list_is_unique()
         IsSolutionList m g xs → IsSolutionList m g ys → xs ≡ ys }
 {}
 
-/// The tests on a grid say what their definitions say: that it has a conflict (`conflict`), which of its blank cells is
-/// the first with the fewest candidates (`fewest`), and that no cell is blank (`full`).
+/// The tests on a grid say what their definitions say. They are that it has a conflict (`conflict`), which of its
+/// blank cells is the first with the fewest candidates (`fewest`), and that no cell is blank (`full`).
 pub fn tests_are_exact()
     ensures conflict { (m : ℕ) (g : Cells) → (conflict m g ≡ true) ↔ HasConflict m g }
     ensures fewest { (m : ℕ) (g : Cells) (cell : ℕ) → (fewest m g ≡ Some cell) ↔ IsFewest m g cell }

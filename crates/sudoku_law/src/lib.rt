@@ -1,6 +1,6 @@
 //! What a solution of a Sudoku grid is, the search tree of a grid, and the law that joins them.
 //!
-//! The definitions stand in specs/: the plain rules in Grid, the tree in Tree, the list in Solutions.
+//! The definitions are in specs/: the plain rules in Grid, the tree in Tree, the list in Solutions.
 //! Nothing here runs: each function has an empty body, and its `ensures` clauses are theorems about them.
 #![tactic(auto)]
 

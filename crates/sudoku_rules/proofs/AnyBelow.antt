@@ -3,16 +3,19 @@ use Rattle.std.proofs.Common.{◌≡◌, ℕ, zero, suc, Bool, true, false, ◌&
 use Rattle.std.proofs.lemmas.Bool.{cases_eq, eq-eqb, ne_eqb}
 use Rattle.sudoku_law.specs.Grid.{any_below}
 
+-- a test together with what is true is the test
 pub and_true : (a : Bool) → (a && true) ≡ a
 and_true true = refl
 and_true false = refl
 
+-- equality of numbers goes both ways
 pub eqb_comm : (a b : ℕ) → eqb a b ≡ eqb b a
 eqb_comm a b = elim (cases_eq a b) [
   | inl same ↦ eq-eqb a b same ∙ sym (eq-eqb b a (sym same))
   | inr other ↦ ne_eqb a b other ∙ sym (ne_eqb b a (λ e. other (sym e)))
 ]
 
+-- if each number fails, none below `n` passes
 pub any_none : (n : ℕ) (p : ℕ → Bool) → ((k : ℕ) → p k ≡ false) → any_below n p ≡ false
 unfolding any_below
 any_none zero p off = refl
@@ -30,6 +33,7 @@ regroup false true true y = refl
 regroup false true false y = refl
 regroup false false x y = refl
 
+-- some number passes one of two tests exactly if one passes the first or one the second
 pub any_or : (n : ℕ) (p q : ℕ → Bool) → any_below n (λ k. p k || q k) ≡ (any_below n p || any_below n q)
 unfolding any_below
 any_or zero p q = refl

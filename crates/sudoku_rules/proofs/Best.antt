@@ -53,7 +53,7 @@ best_wins m g n options choice within blank are fewer_ones is =
       record { within = within; options = are; count = counted },
     )
 
--- so many cells that are not blank change nothing
+-- cells that are not blank change nothing, however many
 pub best_skips : (m : ℕ) (g : Cells) (n k : ℕ) (best : Option Choice) → ((j : ℕ) → n ≤ j → j < n + k → get_or g j 0 ≡ 0 → ⊥)
     → IsBest m g n best → IsBest m g (n + k) best
 best_skips m g n zero best full is = let e : n + 0 ≡ n = omega arith in rw e is

@@ -12,9 +12,11 @@ use Rattle.sudoku_rules.specs.inside.Marked.{IsBlankRow}
 grows : (n mask : ℕ) → mask < 2 ^ n → mask < 2 ^ (n + 1)
 grows n mask small = let e : n + 1 ≡ suc n = omega arith in rw e (omega (arith, pow-suc 2 n))
 
+-- before its first column no cell of a row is blank
 pub row_none : (m : ℕ) (g : Cells) (row : ℕ) → IsBlankRow m g row 0 0
 row_none m g row = record { small = omega arith; bits = λ k few. absurd (omega arith) }
 
+-- a blank cell sets its bit of the row's mask
 pub row_blank : (m : ℕ) (g : Cells) (row n mask : ℕ) → n < 16 → get_or g (row * side m + n) 0 ≡ 0 → IsBlankRow m g row n mask
     → IsBlankRow m g row (n + 1) (bit_or mask (1 * 2 ^ n % 65536))
 row_blank m g row n mask few blank is = record {
@@ -28,6 +30,7 @@ row_blank m g row n mask few blank is = record {
   ];
 }
 
+-- a cell with a digit leaves the row's mask
 pub row_full : (m : ℕ) (g : Cells) (row n mask : ℕ) → (get_or g (row * side m + n) 0 ≡ 0 → ⊥) → IsBlankRow m g row n mask
     → IsBlankRow m g row (n + 1) mask
 row_full m g row n mask full is = record {

@@ -59,26 +59,26 @@ shares_self m cell =
     (or_left (eqb (row_of m cell) (row_of m cell)) (eqb (column_of m cell) (column_of m cell))
     (eq-eqb (row_of m cell) (row_of m cell) refl))
 
--- a digit can stand
+-- a digit can go there
 pub record Stands (m : ℕ) (g : Cells) (x cell : ℕ) : Type 0 where
   pub blank : IsBlank g cell
   pub unused : used m g cell (x + 1) ≡ false
 
--- where a plane has a cell its digit can stand there
+-- where a plane has a cell its digit can go there
 pub stands_is : (m : ℕ) {S C : ℕ} (w : Board S C) (x cell : ℕ) → IsBoard m w → x < side m → has (get_or w.options x 0) cell ≡ true
     → Stands m w.cells x cell
 stands_is m w x cell is digit stands =
     let parts = and_parts (is_blank w.cells cell) (not (used m w.cells cell (x + 1))) (sym (is.options x cell digit) ∙ stands) in
     record { blank = blank_is w.cells cell parts.0; unused = not-true (used m w.cells cell (x + 1)) parts.1 }
 
--- and where a digit can stand its plane has the cell
+-- and where a digit can go its plane has the cell
 pub stands_test : (m : ℕ) {S C : ℕ} (w : Board S C) (x cell : ℕ) → IsBoard m w → x < side m → IsBlank w.cells cell
     → used m w.cells cell (x + 1) ≡ false → has (get_or w.options x 0) cell ≡ true
 stands_test m w x cell is digit blank unused =
     is.options x cell digit
     ∙ and_from (is_blank w.cells cell) (not (used m w.cells cell (x + 1))) (blank_test w.cells cell blank) (ap not unused)
 
--- a board but for the cell where a digit x + 1 is to be put: no other digit can stand there
+-- a board but for the cell where a digit x + 1 is to be put: no other digit can go there
 pub record IsNear {S C : ℕ} (w almost : Board S C) (cell x : ℕ) : Type 0 where
   pub cells : almost.cells ≡ w.cells
   pub blank : almost.blank ≡ w.blank
@@ -86,7 +86,7 @@ pub record IsNear {S C : ℕ} (w almost : Board S C) (cell x : ℕ) : Type 0 whe
   pub elsewhere : (y k : ℕ) → (k ≡ cell → ⊥) → has (get_or almost.options y 0) k ≡ has (get_or w.options y 0) k
   pub alone : (y : ℕ) → (y ≡ x → ⊥) → has (get_or almost.options y 0) cell ≡ false
 
--- a board where no other digit can stand at the cell
+-- a board where no other digit can go to the cell
 pub near_itself : {S C : ℕ} (w : Board S C) (cell x : ℕ) → ((y : ℕ) → (y ≡ x → ⊥) → has (get_or w.options y 0) cell ≡ false)
     → IsNear w w cell x
 near_itself w cell x alone = record {
@@ -97,7 +97,7 @@ near_itself w cell x alone = record {
   alone = alone;
 }
 
--- a board where no digit can stand at the cell any more
+-- a board where no digit can go to the cell any more
 pub near_left : {S C : ℕ} (w almost : Board S C) (cell x : ℕ) → IsLeft w almost cell → IsNear w almost cell x
 near_left w almost cell x is = record {
   cells = is.cells;
@@ -117,7 +117,7 @@ apart true true s l on = refl
 apart true false s l on = ap (λ t. not (t && s)) (on refl)
 apart false u s l on = refl
 
--- where a digit can stand after another is put, at the cell and elsewhere
+-- where a digit can go after another is put, at the cell and elsewhere
 stand_here : (m : ℕ) (g : Cells) (cell x y k : ℕ) → cell < length g → k ≡ cell → can_stand m (set g cell (x + 1)) y k ≡ false
 stand_here m g cell x y k within same =
     and_left (is_blank (set g cell (x + 1)) k) (not (used m (set g cell (x + 1)) k (y + 1)))
@@ -355,7 +355,7 @@ many_choices m w k is blank =
     (λ x below. is.options x k below ∙ ap (λ b. b && not (used m w.cells k (x + 1))) blank)
     ∙ sym (choices_are m w.cells k)
 
--- the digits that can stand at a blank cell are its candidates
+-- the digits that can go to a blank cell are its candidates
 pub options_are : (m : ℕ) {S C : ℕ} (w : Board S C) (cell options : ℕ) → IsBoard m w → is_blank w.cells cell ≡ true
     → options < 2 ^ side m → ((x : ℕ) → x < side m → bit_at options x ≡ cond (has (get_or w.options x 0) cell) 1 0)
     → AreOptions m w.cells cell options

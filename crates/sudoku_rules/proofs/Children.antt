@@ -93,6 +93,7 @@ pub digit_handed : (m : ℕ) (hands : Bool) (grain share : ℕ) (g : Cells) (cel
     → handed_out share (set g cell d) ≡ at_digit m hands grain share g cell d
 digit_handed m hands grain share g cell d unused is = rw (unused, is) refl
 
+-- the child of a candidate is worked here, unless the node hands its children out
 pub digit_worked : (m : ℕ) (hands : Bool) (grain share : ℕ) (g : Cells) (cell d : ℕ) → used m g cell d ≡ false → hands ≡ false
     → walk grain (tree m share (set g cell d)) ≡ at_digit m hands grain share g cell d
 digit_worked m hands grain share g cell d unused is = rw (unused, is) refl

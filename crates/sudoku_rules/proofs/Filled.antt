@@ -13,7 +13,7 @@ use Rattle.sudoku_rules.proofs.Alone.{IsAlone, blanks_put, goes_first}
 use Rattle.sudoku_rules.proofs.PlaneBits.{has_none}
 use Rattle.sudoku_rules.proofs.BoardSteps.{near_itself, none_new, place_board, stands_is, blank_test}
 
--- at a cell that is not in the plane of two digits one at most can stand
+-- a cell that is not in the plane of two digits can take one digit at most
 pub single_cells : (options : List ℕ) (one two singles : ℕ) → ((k : ℕ) → has two k ≡ ltb 1 (many options (length options) k))
     → ((k : ℕ) → has singles k ≡ (has one k && not (has two k))) → AreSingle singles options
 single_cells options one two singles is cells k x y there x_has y_has = elim (cases_order x y) [
@@ -37,7 +37,7 @@ single_cells options one two singles is cells k x y there x_has y_has = elim (ca
     never i j less inside first second =
         omega (arith, two_counted (length options) j i (λ z. has (get_or options z 0) k) less inside first second, few)
 
--- no other digit can stand where this one can
+-- no other digit can go where this one can
 pub no_other : (options : List ℕ) (singles cell x : ℕ) → AreSingle singles options → has singles cell ≡ true
     → has (get_or options x 0) cell ≡ true → (y : ℕ) → (y ≡ x → ⊥) → has (get_or options y 0) cell ≡ false
 no_other options singles cell x single there stands y differs =
@@ -86,7 +86,7 @@ fill_step m old w after b left singles cell x filled single digit there stands p
     alone : IsAlone m w.cells cell (x + 1)
     alone = alone_is m w singles cell x filled.board single digit there stands
 
--- no more digits can stand at these cells after one was put
+-- no more digits can go to these cells after one was put
 pub single_after : (m : ℕ) {S C : ℕ} (w after : Board S C) (singles cell x : ℕ) → AreSingle singles w.options → IsPlaced m w after cell x
     → AreSingle singles after.options
 single_after m w after singles cell x single placed k y z there first second =

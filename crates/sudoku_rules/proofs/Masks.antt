@@ -137,12 +137,15 @@ three false false false a b c ea eb ec = omega arith
 abbrev pub near : ℕ → Cells → ℕ → ℕ → ℕ → Bool
 near m g n cell d = any_below n (λ j. shares m cell j && eqb (get_or g j 0) d)
 
+-- the mask of a cell's row
 abbrev pub row_mask : ℕ → {S : ℕ} → Masks S → ℕ → ℕ
 row_mask m masks cell = get_or masks.rows (row_of m cell) 0
 
+-- the mask of a cell's column
 abbrev pub column_mask : ℕ → {S : ℕ} → Masks S → ℕ → ℕ
 column_mask m masks cell = get_or masks.columns (column_of m cell) 0
 
+-- the mask of a cell's box
 abbrev pub box_mask : ℕ → {S : ℕ} → Masks S → ℕ → ℕ
 box_mask m masks cell = get_or masks.boxes (box_of m cell) 0
 
@@ -154,6 +157,7 @@ box_within m low high cell within =
 abbrev pub around_of : ℕ → {S : ℕ} → Masks S → ℕ → ℕ
 around_of m masks cell = bit_or (bit_or (row_mask m masks cell) (column_mask m masks cell)) (box_mask m masks cell)
 
+-- a bit of the mask around a cell is set exactly if the digit is near it
 pub around_bits : (m : ℕ) → 2 ≤ m → m ≤ 4 → {S : ℕ} (g : Cells) (n cell k : ℕ) (masks : Masks S) → AreMasks m g n masks → cell < size m
     → k < side m → bit_at (around_of m masks cell) k ≡ cond (near m g n cell (k + 1)) 1 0
 around_bits m low high g n cell k masks are within few =
@@ -168,6 +172,7 @@ around_bits m low high g n cell k masks are within few =
     (sym (any_of_three n (λ j. eqb (row_of m cell) (row_of m j)) (λ j. eqb (column_of m cell) (column_of m j))
     (λ j. eqb (box_of m cell) (box_of m j)) (λ j. eqb (get_or g j 0) (k + 1))))
 
+-- the mask around a cell has only the bits of its digits
 pub around_small : (m : ℕ) → 2 ≤ m → m ≤ 4 → {S : ℕ} (g : Cells) (n cell : ℕ) (masks : Masks S) → AreMasks m g n masks → cell < size m
     → around_of m masks cell < 2 ^ side m
 around_small m low high g n cell masks are within =
@@ -202,6 +207,7 @@ no_clash m g n blank =
     (λ j. and_right (shares m n j && eqb (get_or g n 0) (get_or g j 0)) (not (eqb (get_or g n 0) 0))
     (ap not (eq-eqb (get_or g n 0) 0 blank)))
 
+-- two of the first `n + 1` cells clash if the last does, or if two before it do
 pub clashes_more : (m : ℕ) (g : Cells) (n : ℕ)
     → any_below (n + 1) (λ i. any_below i (λ j. clash m g i j)) ≡
     (any_below n (λ j. clash m g n j) || any_below n (λ i. any_below i (λ j. clash m g i j)))

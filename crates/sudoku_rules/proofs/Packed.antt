@@ -64,6 +64,7 @@ pairs_long (suc n) (x ∷ y ∷ rest) least most = let more = pairs_long n rest 
 pub small_four : (g : Cells) → IsGrid 2 g → All (λ x. x < 16) g
 small_four g is = λ k d within. omega (arith, is.digits k within, get_or_default g k d 0 within)
 
+-- each cell of a grid of side 9 is below 16
 pub small_nine : (g : Cells) → IsGrid 3 g → All (λ x. x < 16) g
 small_nine g is = λ k d within. omega (arith, is.digits k within, get_or_default g k d 0 within)
 
@@ -72,6 +73,7 @@ pub kept_four : (g : Cells) → IsGrid 2 g → halves (pairs g) ≡ g
 kept_four g is =
     sym (append-nil (halves (pairs g))) ∙ ap (λ l. halves (pairs g) ++ l) (sym (odd_none 8 g is.long)) ∙ pairs_back g (small_four g is)
 
+-- a grid of side 9 is kept as its pairs and its last cell
 pub kept_nine : (g : Cells) → IsGrid 3 g → halves (pairs g) ++ get_or g 80 0 ∷ [] ≡ g
 kept_nine g is = ap (λ l. halves (pairs g) ++ l) (sym (odd_last 40 g is.long)) ∙ pairs_back g (small_nine g is)
 
@@ -99,6 +101,7 @@ pairs_next (x ∷ []) zero within = absurd (omega (arith, within))
 pairs_next (x ∷ y ∷ rest) zero within = refl
 pairs_next (x ∷ xs) (suc k) within = pairs_next xs k (omega (arith, within))
 
+-- the pairs from a place on are the one there and those after it
 pub pairs_at : (xs : Cells) (k : ℕ) → k + 1 < length xs →
     pairs (drop k xs) ≡ (get_or xs k 0 + 16 * get_or xs (k + 1) 0) ∷ pairs (drop (k + 2) xs)
 pairs_at xs k within =
@@ -108,6 +111,7 @@ pairs_at xs k within =
     ∙ ap (λ n. (get_or xs k 0 + 16 * get_or xs n 0) ∷ pairs (drop (suc (suc k)) xs)) one
     ∙ ap (λ n. (get_or xs k 0 + 16 * get_or xs (k + 1) 0) ∷ pairs (drop n xs)) two
 
+-- at the last cell no pair is left
 pub pairs_over : (xs : Cells) (k : ℕ) → length xs ≤ k + 1 → pairs (drop k xs) ≡ []
 unfolding pairs
 pairs_over [] zero over = refl
@@ -122,6 +126,7 @@ pub halves_next : (bytes : List ℕ) (k : ℕ) → k < length bytes →
 unfolding halves
 halves_next bytes k within = at_drop_more halves bytes k 0 within
 
+-- after the last byte nothing is left
 pub halves_none : (bytes : List ℕ) (k : ℕ) → length bytes ≤ k → halves (drop k bytes) ≡ []
 unfolding halves
 halves_none bytes k over = at_drop_all halves bytes k over

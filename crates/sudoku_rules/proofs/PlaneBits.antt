@@ -215,7 +215,7 @@ levels_none planes = record {
     none : (j k : ℕ) → ltb j (many planes 0 k) ≡ false
     none j k = le-ltb j (many planes 0 k) (omega (arith, many_none planes k))
 
--- the cells of a plane that are in n planes at most, if each is in so many at least
+-- the cells of a plane that are in n planes at most, if each is in n at least
 pub few_are : (planes : List ℕ) (n all level few : ℕ) → ((k : ℕ) → has level k ≡ ltb n (many planes (length planes) k))
     → ((k : ℕ) → has few k ≡ (has all k && not (has level k))) → 0 < few
     → ((k : ℕ) → has all k ≡ true → n ≤ many planes (length planes) k) → AreFewest planes all few

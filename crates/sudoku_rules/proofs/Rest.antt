@@ -21,6 +21,7 @@ cond_none : (b : Bool) → ◌≡◌ {A = ℕ} (cond b 1 0) 0 → b ≡ false
 cond_none true e = absurd (omega arith)
 cond_none false e = refl
 
+-- a mask without a bit has the other bits
 pub without_bits : (mask k j : ℕ) → k < 16 → j < 16 → bit_at (without mask k) j ≡ min (bit_at mask j) (1 - bit_at (2 ^ k) j)
 without_bits mask k j few low =
     bit_at_and mask (65535 - 2 ^ k) j ∙ ap (λ b. min (bit_at mask j) b) (bit_at_not w16 (2 ^ k) j (pow_below k 16 few) low)
@@ -38,12 +39,14 @@ without_other mask k j few low differs =
     let small : bit_at mask j < 2 = bit_at-lt mask j in
     without_bits mask k j few low ∙ omega arith
 
+-- a mask without a bit that it had is less
 pub without_falls : (mask k : ℕ) → k < 16 → bit_at mask k ≡ 1 → without mask k < mask
 without_falls mask k few is_set = elim (cases_eq (without mask k) mask) [
   | inl same ↦ absurd (let e : bit_at mask k ≡ 0 = ap (λ v. bit_at v k) (sym same) ∙ without_same mask k few in omega arith)
   | inr differs ↦ let le : without mask k ≤ mask = and_le_l mask (65535 - 2 ^ k) in omega arith
 ]
 
+-- the lowest bit that is set is the next that passes
 pub rest_next : (n : ℕ) (p : ℕ → Bool) (from mask k : ℕ) → k < n → bit_at mask k ≡ 1 → ((j : ℕ) → j < k → bit_at mask j ≡ 0)
     → IsRest n p from mask → IsNext n p from k
 rest_next n p from mask k few is_set lower is =
@@ -59,6 +62,7 @@ rest_next n p from mask k few is_set lower is =
           ];
     }
 
+-- without its lowest bit the mask is that of those after it
 pub rest_more : (n : ℕ) (p : ℕ → Bool) (from mask k : ℕ) → n ≤ 16 → k < n → bit_at mask k ≡ 1 → ((j : ℕ) → j < k → bit_at mask j ≡ 0)
     → IsRest n p from mask → IsRest n p (k + 1) (without mask k)
 rest_more n p from mask k within few is_set lower is = record {
@@ -103,11 +107,13 @@ less_lowest mask = bit_and mask (65535 - 1 * 2 ^ lowest mask % 65536)
 less_is : (mask : ℕ) → lowest mask < 16 → less_lowest mask ≡ without mask (lowest mask)
 less_is mask few = ap (λ v. bit_and mask (65535 - v)) (one_shl (lowest mask) 16 few)
 
+-- a mask without its lowest bit is less
 pub lowest_falls : (mask : ℕ) → 0 < mask → mask < 2 ^ 16 → less_lowest mask < mask
 lowest_falls mask some small =
     let bits = bit_at-trailing_zeros w16 mask some small in
     rw (less_is mask bits.0) (without_falls mask (lowest mask) bits.0 bits.1)
 
+-- the lowest bit is the next that passes, and the others come after it
 pub lowest_rest : (n : ℕ) (p : ℕ → Bool) (from mask : ℕ) → n ≤ 16 → 0 < mask → mask < 2 ^ 16 → IsRest n p from mask
     → IsNext n p from (lowest mask) × IsRest n p (lowest mask + 1) (less_lowest mask)
 lowest_rest n p from mask within some small is =

@@ -19,6 +19,7 @@ pub record IsScanned (m : ℕ) (g : Cells) (row left : ℕ) (best : Option Choic
   pub rest : IsRest (side m) (λ k. blank_at m g row k) from left
   pub chosen : IsBest m g (row * side m + from) best
 
+-- at the start of a row, all its blank cells are left
 pub scan_first : (m : ℕ) (g : Cells) (row mask : ℕ) (best : Option Choice) → IsBlankRow m g row (side m) mask
     → IsBest m g (row * side m) best → IsScanned m g row mask best
 scan_first m g row mask best is chosen = record {
@@ -39,6 +40,7 @@ scan_next m g row left k best s next =
     next.others (j - row * side m) (omega arith) (omega (arith, next.low)) in
     eqb-false (get_or g j 0) 0 (subst (λ i. eqb (get_or g i 0) 0 ≡ false) at full)) s.chosen)
 
+-- at the end of a row, the best so far is that up to its end
 pub scan_last : (m : ℕ) (g : Cells) (row : ℕ) (best : Option Choice) → IsScanned m g row 0 best → IsBest m g (row * side m + side m) best
 scan_last m g row best s =
     let few : s.from ≤ side m = s.few in

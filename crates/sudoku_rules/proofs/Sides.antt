@@ -6,6 +6,7 @@ use Rattle.std.proofs.lemmas.Bool.{cases_eq, cond-true, cond-false, eq-eqb, ne_e
 use Rattle.sudoku_law.specs.Grid.{Cells, IsGrid, side, size, row_of, column_of}
 use Rattle.sudoku_rules.specs.Sides.{IsSize, IsSudoku, box_for, box_side, is_sudoku, side_for}
 
+-- what holds of 2, 3 and 4 holds of each between
 pub each_side : (P : ℕ → Type 0) → P 2 → P 3 → P 4 → (m : ℕ) → 2 ≤ m → m ≤ 4 → P m
 each_side P two three four zero low high = absurd (omega arith)
 each_side P two three four (suc zero) low high = absurd (omega arith)
@@ -14,9 +15,11 @@ each_side P two three four (suc (suc (suc zero))) low high = three
 each_side P two three four (suc (suc (suc (suc zero)))) low high = four
 each_side P two three four (suc (suc (suc (suc (suc n))))) low high = absurd (omega arith)
 
+-- a side is not 0
 pub side_some : (m : ℕ) → 2 ≤ m → m ≤ 4 → 0 < side m
 side_some m low high = each_side (λ m. 0 < side m) (omega arith) (omega arith) (omega arith) m low high
 
+-- a side is at most 16
 pub side_few : (m : ℕ) → 2 ≤ m → m ≤ 4 → side m ≤ 16
 side_few m low high = each_side (λ m. side m ≤ 16) (omega arith) (omega arith) (omega arith) m low high
 
@@ -28,38 +31,46 @@ narrow_size m low high =
     wider : {k : ℕ} → k ≤ 3 → k ≤ 4
     wider h = omega arith
 
+-- the row of a cell is within the grid
 pub row_within : (m : ℕ) → 2 ≤ m → m ≤ 4 → (cell : ℕ) → cell < size m → row_of m cell < side m
 row_within m low high =
     each_side (λ m. (cell : ℕ) → cell < size m → row_of m cell < side m) (λ cell h. omega arith) (λ cell h. omega arith)
     (λ cell h. omega arith) m low high
 
+-- the column of a cell is within the grid
 pub column_within : (m : ℕ) → 2 ≤ m → m ≤ 4 → (cell : ℕ) → column_of m cell < side m
 column_within m low high =
     each_side (λ m. (cell : ℕ) → column_of m cell < side m) (λ cell. omega arith) (λ cell. omega arith) (λ cell. omega arith) m low high
 
+-- the box of a row and column is within the grid
 pub box_place_within : (m : ℕ) → 2 ≤ m → m ≤ 4 → (row column : ℕ) → row < side m → column < side m → row / m * m + column / m < side m
 box_place_within m low high =
     each_side (λ m. (row column : ℕ) → row < side m → column < side m → row / m * m + column / m < side m) (λ row column h k. omega arith)
     (λ row column h k. omega arith) (λ row column h k. omega arith) m low high
 
+-- the row of the cell at a row and column
 pub row_is : (m : ℕ) → 2 ≤ m → m ≤ 4 → (row column : ℕ) → column < side m → row_of m (row * side m + column) ≡ row
 row_is m low high = each_side (λ m. (row column : ℕ) → column < side m → row_of m (row * side m + column) ≡ row)
     (λ row column h. omega arith) (λ row column h. omega arith) (λ row column h. omega arith) m low high
 
+-- the column of the cell at a row and column
 pub column_is : (m : ℕ) → 2 ≤ m → m ≤ 4 → (row column : ℕ) → column < side m → column_of m (row * side m + column) ≡ column
 column_is m low high =
     each_side (λ m. (row column : ℕ) → column < side m → column_of m (row * side m + column) ≡ column) (λ row column h. omega arith)
     (λ row column h. omega arith) (λ row column h. omega arith) m low high
 
+-- a cell is the one at its row and column
 pub cell_is : (m : ℕ) → 2 ≤ m → m ≤ 4 → (cell : ℕ) → row_of m cell * side m + column_of m cell ≡ cell
 cell_is m low high = each_side (λ m. (cell : ℕ) → row_of m cell * side m + column_of m cell ≡ cell) (λ cell. omega arith)
     (λ cell. omega arith) (λ cell. omega arith) m low high
 
+-- the cell at a row and column is within the grid
 pub cell_within : (m : ℕ) → 2 ≤ m → m ≤ 4 → (row column : ℕ) → row < side m → column < side m → row * side m + column < size m
 cell_within m low high =
     each_side (λ m. (row column : ℕ) → row < side m → column < side m → row * side m + column < size m) (λ row column h k. omega arith)
     (λ row column h k. omega arith) (λ row column h k. omega arith) m low high
 
+-- the next row begins a side later
 pub next_row : (m : ℕ) → 2 ≤ m → m ≤ 4 → (row : ℕ) → row * side m + side m ≡ (row + 1) * side m
 next_row m low high =
     each_side (λ m. (row : ℕ) → row * side m + side m ≡ (row + 1) * side m) (λ row. omega arith) (λ row. omega arith)
@@ -71,7 +82,7 @@ all_digits m low high = each_side (λ m. 65535 / 2 ^ (16 - side m) ≡ 2 ^ side 
 
 -- The side is told by how many cells there are.
 
--- what holds of each side holds of the side of so many cells
+-- what holds of each side holds of the side for n cells
 pub each_box : (P : ℕ → Type 0) → P 2 → P 3 → P 4 → (n : ℕ) → P (box_for n)
 unfolding box_for
 each_box P two three four n = elim (cases_eq n 16) [
@@ -82,9 +93,11 @@ each_box P two three four n = elim (cases_eq n 16) [
   ])
 ]
 
+-- the side of a box is at least 2
 pub box_low : (n : ℕ) → 2 ≤ box_for n
 box_low n = each_box (λ m. 2 ≤ m) (omega arith) (omega arith) (omega arith) n
 
+-- the side of a box is at most 4
 pub box_high : (n : ℕ) → box_for n ≤ 4
 box_high n = each_box (λ m. m ≤ 4) (omega arith) (omega arith) (omega arith) n
 
@@ -96,29 +109,34 @@ box_of_size m low high = each_side (λ m. box_for (size m) ≡ m) refl refl refl
 pub box_is : (m : ℕ) → 2 ≤ m → m ≤ 4 → (g : Cells) → IsGrid m g → box_side g ≡ m
 box_is m low high g is = ap box_for is.long ∙ box_of_size m low high
 
+-- a grid of one of the three sides is one of a sudoku
 pub grid_sudoku : (m : ℕ) → 2 ≤ m → m ≤ 4 → (g : Cells) → IsGrid m g → IsSudoku g
 grid_sudoku m low high g is = subst (λ k. IsGrid k g) (sym (box_is m low high g is)) is
 
--- so many cells are those of a grid
+-- a size of a grid is the size for its side
 pub size_is : (n : ℕ) → IsSize n → n ≡ size (box_for n)
 unfolding box_for
 size_is n (inl small) = subst (λ k. k ≡ size (box_for k)) (sym small) refl
 size_is n (inr (inl middle)) = subst (λ k. k ≡ size (box_for k)) (sym middle) refl
 size_is n (inr (inr large)) = subst (λ k. k ≡ size (box_for k)) (sym large) refl
 
+-- a grid of a sudoku has 16, 81 or 256 cells
 pub sudoku_size : (g : Cells) → IsSudoku g → IsSize (length g)
 sudoku_size g is = each_box (λ m. length g ≡ size m → IsSize (length g)) (λ e. inl e) (λ e. inr (inl e)) (λ e. inr (inr e))
     (length g) is.long
 
+-- a grid of a sudoku has at most 256 cells
 pub sudoku_few : (g : Cells) → IsSudoku g → length g ≤ 256
 sudoku_few g is = each_box (λ m. length g ≡ size m → length g ≤ 256) (λ e. omega arith) (λ e. omega arith) (λ e. omega arith)
     (length g) is.long
 
+-- a cell of a sudoku is at most 16
 pub sudoku_digit : (g : Cells) (k : ℕ) → IsSudoku g → k < length g → get_or g k 0 ≤ 16
 sudoku_digit g k is within =
     let few : side (box_side g) ≤ 16 = side_few (box_side g) (box_low (length g)) (box_high (length g)) in
     omega (arith, is.digits k within, few)
 
+-- a side is at most 16, whatever the number of cells
 pub side_is : (n : ℕ) → side_for n ≤ 16
 side_is n = side_few (box_for n) (box_low n) (box_high n)
 
@@ -134,10 +152,11 @@ sudoku_wide g is not_small not_middle = elim (sudoku_size g is) [
 pub as_grid : (m : ℕ) → 2 ≤ m → m ≤ 4 → (g : Cells) → IsSudoku g → length g ≡ size m → IsGrid m g
 as_grid m low high g is long = subst (λ k. IsGrid k g) (ap box_for long ∙ box_of_size m low high) is
 
--- the side of so many cells
+-- the side for the size of a side's grid
 pub side_told : (m : ℕ) → 2 ≤ m → m ≤ 4 → (n : ℕ) → n ≡ size m → side m ≡ side_for n
 side_told m low high n is = ap (λ k. side k) (sym (ap box_for is ∙ box_of_size m low high))
 
+-- a size is at most 256
 pub size_few : (n : ℕ) → IsSize n → n ≤ 256
 size_few n (inl small) = omega arith
 size_few n (inr (inl middle)) = omega arith
@@ -156,11 +175,13 @@ from_low n (d ∷ g) low =
     and_from (leb d n) (list_all (λ x. leb x n) g) (le-leb d n (low 0 (omega arith)))
     (from_low n g (λ k within. low (suc k) (omega arith)))
 
+-- a grid that passes the test is one of a sudoku
 pub test_sudoku : (g : Cells) → is_sudoku g ≡ true → IsSudoku g
 test_sudoku g test =
     let parts = and_parts (eqb (length g) (size (box_side g))) (list_all (λ d. leb d (side (box_side g))) g) test in
     record { long = eqb-true (length g) (size (box_side g)) parts.0; digits = low_from (side (box_side g)) g parts.1 }
 
+-- a grid of a sudoku passes the test
 pub sudoku_test : (g : Cells) → IsSudoku g → is_sudoku g ≡ true
 sudoku_test g is =
     and_from (eqb (length g) (size (box_side g))) (list_all (λ d. leb d (side (box_side g))) g)

@@ -56,10 +56,12 @@ right_is m cell plane k right =
           ∙ sym (and_left (ltb k (size m)) (shares m k cell) (le-ltb k (size m) more))
     ]
 
+-- the table for side 4 has the cells that share with each cell
 pub sharing_four : (cell k : ℕ) → cell < size 2 → has (get_or SHARING_FOUR cell 0) k ≡ (ltb k (size 2) && shares 2 k cell)
 sharing_four cell k within =
     right_is 2 cell (get_or SHARING_FOUR cell 0) k (each_at (size 2) (λ c. is_right 2 c (get_or SHARING_FOUR c 0)) cell four_right within)
 
+-- the table for side 9 has the cells that share with each cell
 pub sharing_nine : (cell k : ℕ) → cell < size 3 → has (get_or SHARING_NINE cell 0) k ≡ (ltb k (size 3) && shares 3 k cell)
 sharing_nine cell k within =
     right_is 3 cell (get_or SHARING_NINE cell 0) k (each_at (size 3) (λ c. is_right 3 c (get_or SHARING_NINE c 0)) cell nine_right within)

@@ -106,6 +106,7 @@ over_same m (c ∷ cs) same =
 
 -- The laws of what one unit takes of a tree, at the side of each grid.
 
+-- a tree's solutions are those of its walk and of the boards that the walk hands out
 pub nodes_add : (grain b : ℕ) (g : Cells)
     → IsPermutation (solutions (tree_of b g))
     ((walk grain (tree_of b g)).solutions ++ flat_map (λ c. solutions (tree_of c.0 c.1)) (walk grain (tree_of b g)).children)
@@ -114,11 +115,13 @@ nodes_add grain b g =
     subst (λ xs. IsPermutation (solutions (tree_of b g)) ((walk grain (tree_of b g)).solutions ++ xs))
     (nodes_same (box_side g) cs (same_trees grain b g)) (solutions_add (box_side g) grain b g)
 
+-- the boards handed out are counted over those that the walk hands out
 pub handed_add : (grain b : ℕ) (g : Cells)
     → handed grain (tree_of b g) ≡ sum_by (λ c. boards grain (tree_of c.0 c.1)) (walk grain (tree_of b g)).children
 handed_add grain b g =
     boards_add (box_side g) grain b g ∙ boards_same (box_side g) grain (walk grain (tree_of b g)).children (same_trees grain b g)
 
+-- a tree is over if its walk is, or if that of a board handed out is
 pub over_add : (grain b : ℕ) (g : Cells)
     → is_over (tree_of b g) ≡
     ((walk grain (tree_of b g)).over || list_any (λ c. is_over (tree_of c.0 c.1)) (walk grain (tree_of b g)).children)
@@ -133,6 +136,7 @@ children_sudoku grain b g is =
     (λ c below. (grid_sudoku (box_side g) (box_low (length g)) (box_high (length g)) c.1 below.0, below.1))
     (walk grain (tree_of b g)).children (children_below (box_side g) grain b g is)
 
+-- each solution of a walk is a grid of a sudoku
 pub nodes_sudoku : (grain b : ℕ) (g : Cells) → IsSudoku g → All IsSudoku (walk grain (tree_of b g)).solutions
 nodes_sudoku grain b g is =
     All-weaker (λ s. IsGrid (box_side g) s) IsSudoku (λ s grid. grid_sudoku (box_side g) (box_low (length g)) (box_high (length g)) s grid)

@@ -4,7 +4,7 @@ use Rattle.std.specs.List.{list_all}
 use Rattle.sudoku_law.specs.Grid.{Cells, side, size, IsGrid}
 use Rattle.sudoku_law.specs.Tree.{Tree, tree}
 
--- so many cells are those of a grid
+-- n is the number of cells of a grid
 abbrev pub IsSize : ℕ → Type 0
 IsSize n = (n ≡ 16) ⊎ (n ≡ 81) ⊎ (n ≡ 256)
 

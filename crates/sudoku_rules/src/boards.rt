@@ -1,4 +1,4 @@
-//! A grid of side 4 or 9 with planes: for each digit the blank cells where it can stand. A digit that is put at
+//! A grid of side 4 or 9 with planes: for each digit the blank cells where it can go. A digit that is put at
 //! a cell takes the cells that share with it out of its plane.
 
 ghost use Rattle.std.specs.Prelude.{◌≡◌, ◌<◌, ◌≤◌, ◌+◌, ◌-◌, ◌^◌, ◌&&◌, not, ℕ, List, true, false, length, slice_index, slice_set, MatchOption, if◌then◌else◌};
@@ -12,7 +12,7 @@ ghost use Rattle.sudoku_rules.specs.inside.Boards.{AreSeen, AreSingle, IsBoard, 
 use crate::look::Choice;
 use crate::planes::{Levels, all_levels, first_of, less, sharing};
 
-/// The cells of a grid, its blank cells, and for each digit the blank cells where it can stand.
+/// The cells of a grid, its blank cells, and for each digit the blank cells where it can go.
 #[derive(Clone, Copy)]
 pub struct Board<const SIDE: usize, const CELLS: usize> {
     pub cells: [u8; CELLS],
@@ -69,7 +69,7 @@ impl<const SIDE: usize> Seen<SIDE> {
         self.planes[x] = plane | sharing::<M>(cell);
     }
 
-    // For each digit the blank cells where it can stand.
+    // For each digit the blank cells where it can go.
     fn options(&self) -> [u128; SIDE]
         ensures long { length result ≡ SIDE }
         ensures left { (x k : ℕ) → x < SIDE → has (slice_index result x) k ≡
@@ -146,7 +146,7 @@ impl<const SIDE: usize, const CELLS: usize> Board<SIDE, CELLS> {
         }
     }
 
-    // The same at any level.
+    // The blank cells with the fewest candidates, by all levels.
     fn with_fewest_of_many(&self) -> u128
         requires { 0 < self.now.blank }
         ensures { AreFewest self.now.options self.now.blank result }
@@ -161,7 +161,7 @@ impl<const SIDE: usize, const CELLS: usize> Board<SIDE, CELLS> {
         self.blank
     }
 
-    // The digits that can stand at a cell, as a mask.
+    // The digits that can go to a cell, as a mask.
     #[inline]
     fn options_at(&self, cell: usize) -> u16
         requires cell { cell < 128 }
@@ -207,7 +207,7 @@ impl<const SIDE: usize, const CELLS: usize> Board<SIDE, CELLS> {
         child
     }
 
-    // Lets no digit stand at a cell any more.
+    // Lets no digit go to a cell any more.
     #[inline]
     fn leave(&mut self, cell: usize)
         requires { cell < 128 }

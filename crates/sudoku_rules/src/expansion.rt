@@ -30,9 +30,9 @@ pub struct Expansion {
     pub over: bool,
 }
 
-/// Works the tree of a grid with this budget. The children of a node with two or more candidates and a
-/// budget above the grain are handed out with their share of the budget; all other nodes are worked here.
-/// Its only error is `NoMemory`.
+/// Works the tree of a grid with this budget. A node with two or more candidates and a budget above the grain
+/// hands its children out, each with its share of the budget. All other nodes are worked here. Its only error
+/// is `NoMemory`.
 pub fn expand(alloc: Global, budget: u64, grid: &Grid, grain: u64) -> Result<Expansion, NoMemory>
     ensures { IfOk result (λ e. met_of e ≡ walk grain (tree_of budget grid.now)) }
 {
@@ -49,9 +49,9 @@ pub fn expand(alloc: Global, budget: u64, grid: &Grid, grain: u64) -> Result<Exp
     Ok(found)
 }
 
-/// Puts solutions in the order of their texts (`sorted`). Where they are those of a grid's whole tree, and
-/// none of its nodes is over, they are then the list of all solutions of the grid (`law`). Its only
-/// error is `NoMemory`, and it then leaves them as they were (`err`).
+/// Puts solutions in the order of their texts (`sorted`). If they are those of a grid's whole tree, and no node
+/// of it is over, they are then the list of all solutions of the grid (`law`). Its only error is `NoMemory`,
+/// and it then leaves them as they were (`err`).
 pub fn in_text_order(solutions: &mut Vec<Grid>) -> Result<(), NoMemory>
     ensures permutation { IsPermutation solutions.old.items solutions.new.items }
     ensures sorted { OnOk result (IsSorted (slice_cmp nat_cmp) solutions.new.items) }
@@ -84,7 +84,7 @@ fn work_cells<const M: usize, const SIDE: usize, const CELLS: usize>(
     }
 }
 
-// Works one node, and what stands below it, and leaves the grid as it was.
+// Works one node, and what is below it, and leaves the grid as it was.
 fn work<const M: usize, const SIDE: usize, const CELLS: usize>(
     budget: u64,
     marked: &mut Marked<SIDE, CELLS>,

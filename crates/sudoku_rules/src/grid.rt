@@ -100,8 +100,8 @@ impl Grid {
         }
     }
 
-    /// The candidates of a blank cell, cells counted by rows from 0: bit `d - 1` is set exactly where the
-    /// digit `d`, from 1 to the side, stands nowhere in its row, column or box. No other bit is set.
+    /// The candidates of a blank cell, cells counted by rows from 0. Bit `d - 1` is set exactly if the digit
+    /// `d`, from 1 to the side, is not in its row, column or box. No other bit is set.
     pub fn candidates(&self, cell: u32) -> u16
         requires blank { IsBlank self.now cell }
         ensures bits { (d : ℕ) → 1 ≤ d → d ≤ side (box_side self.now) →

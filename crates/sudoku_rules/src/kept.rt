@@ -9,7 +9,7 @@ use adlb_unit::{NoMemory, or_no_memory};
 use std::alloc::Global;
 use std::marker::Model;
 
-/// The cells on the heap, two in a byte for sides 4 and 9. The last cell of side 9 stands apart, since 41 bytes would take a
+/// The cells on the heap, two in a byte for sides 4 and 9. The last cell of side 9 is apart, since 41 bytes would take a
 /// larger block of the allocator than 40.
 #[derive(Drop)]
 enum Held {

@@ -1,4 +1,4 @@
-//! The digits of a grid's rows, columns and boxes as masks, and what follows from them: whether two clash, the
+//! The digits of a grid's rows, columns and boxes as masks. From them follow whether two cells clash, the
 //! candidates of a cell, and the better of two cells to try next.
 //!
 //! `M` is the side of a box, `SIDE` that of the grid and `CELLS` how many cells it has (`IsSized`).
@@ -8,7 +8,7 @@ ghost use Rattle.sudoku_law.specs.Grid.{IsGrid, box_of, column_of, row_of, side,
 ghost use Rattle.sudoku_rules.specs.inside.Masks.{AreMasks, AreOptions, IsBest, IsSized};
 
 /// The digits of each row, column and box: bit `d - 1` of a mask is set where the digit `d` stands there.
-/// `clash` tells that a digit stands twice in one of them.
+/// `clash` tells that a digit is twice in one of them.
 #[derive(Clone, Copy)]
 pub struct Masks<const SIDE: usize> {
     pub rows: [u16; SIDE],
@@ -25,7 +25,7 @@ pub struct Choice {
     pub count: u32,
 }
 
-// The bit that stands for a digit.
+/// The bit that stands for a digit.
 #[inline]
 pub fn bit_of(digit: u8) -> u16
     requires least { 1 ≤ digit }
@@ -35,7 +35,7 @@ pub fn bit_of(digit: u8) -> u16
     1 << (digit - 1)
 }
 
-// The box of the cell in this row and column, by rows of boxes.
+/// The box of the cell in this row and column, by rows of boxes.
 #[inline]
 pub fn box_at<const M: usize>(row: usize, column: usize) -> usize
     requires low { 2 ≤ M }
@@ -106,7 +106,7 @@ impl<const SIDE: usize> Masks<SIDE> {
         self.boxes[place] |= bit;
     }
 
-    /// The digits that stand neither in the row nor in the column nor in the box of the cell in this row and
+    /// The digits that are neither in the row nor in the column nor in the box of the cell in this row and
     /// column.
     #[inline]
     pub fn options_at<const M: usize>(&self, row: usize, column: usize) -> u16

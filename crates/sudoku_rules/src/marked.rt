@@ -1,4 +1,4 @@
-//! A grid with its masks, carried along a walk: a digit that is put at a blank cell changes four masks, which
+//! A grid with its masks, carried along a walk. A digit that is put at a blank cell changes four masks, which
 //! are put back when the walk leaves the cell.
 
 ghost use Rattle.std.specs.Prelude.{◌≡◌, ◌<◌, ◌≤◌, ◌+◌, ◌-◌, ◌*◌, ℕ, Bool, true, false, length, MatchOption};
@@ -8,8 +8,8 @@ ghost use Rattle.sudoku_rules.specs.inside.Marked.{AreBlanks, IsBlankRow, IsCarr
 
 use crate::look::{Choice, Masks, around, bit_of};
 
-/// The cells of a grid, the masks of its rows, columns and boxes, and its blank cells: bit `c` of
-/// `blanks[r]` is set where the cell in row `r` and column `c` is blank.
+/// The cells of a grid, the masks of its rows, columns and boxes, and its blank cells. Bit `c` of `blanks[r]`
+/// is set exactly if the cell in row `r` and column `c` is blank.
 #[derive(Drop)]
 pub struct Marked<const SIDE: usize, const CELLS: usize> {
     pub cells: [u8; CELLS],
@@ -26,7 +26,7 @@ pub struct Marks {
     pub blanks_in_row: u16,
 }
 
-// Takes the lowest bit out of a mask, and gives its place.
+/// Takes the lowest bit out of a mask, and gives its place.
 #[inline]
 pub fn take_lowest(left: &mut u16) -> usize
     requires some { 0 < left.old }

@@ -10,7 +10,7 @@ static SHARING_FOUR: [u128; 16] = [
     0xf311, 0xf322, 0xfc44, 0xfc88,
 ];
 
-// The same for side 9.
+// The cells that share a row, a column or a box with each cell of a grid of side 9.
 static SHARING_NINE: [u128; 81] = [
     0x0010080402010081c0fff,
     0x0020100804020101c0fff,
@@ -168,7 +168,7 @@ impl Levels {
     }
 }
 
-/// For each number below that of the planes, the cells that more than so many of them have.
+/// For each number `n` below that of the planes, the cells that more than `n` of them have.
 pub fn all_levels<const SIDE: usize>(planes: &[u128; SIDE]) -> [u128; SIDE]
     ensures { (n k : ℕ) → n < SIDE → has (slice_index result n) k ≡ nat_lt n (many planes.now SIDE k) }
 {

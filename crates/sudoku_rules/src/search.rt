@@ -33,7 +33,7 @@ pub fn search_cells<const M: usize, const SIDE: usize, const CELLS: usize>(
     search::<M, SIDE, CELLS>(left, &board, grain, found)
 }
 
-// Works one node, and what stands below it.
+// Works one node, and what is below it.
 fn search<const M: usize, const SIDE: usize, const CELLS: usize>(
     budget: u64,
     board: &Board<SIDE, CELLS>,

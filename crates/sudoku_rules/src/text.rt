@@ -61,8 +61,8 @@ impl GridText {
 
 /// Reads a grid of side 4, 9 or 16 from its text: 16, 81 or 256 bytes by rows. The digits 1 to 9 are written as
 /// such and 10 to 16 as `A` to `G`; `0` and a dot are blank cells. A text of another length is refused by its
-/// length, otherwise one with a byte that is neither a dot nor the sign of a digit up to the side by the first
-/// such byte, counted from 0.
+/// length. Otherwise it is refused by its first byte, counted from 0, that is neither a dot nor the sign of a
+/// digit up to the side.
 pub fn parse_grid(text: &[u8]) -> Result<Grid, GridFault>
     ensures read { (g : List ℕ) → (result ≡ Ok g) ↔ Reads text.now g }
     ensures length { (n : ℕ) →
@@ -86,7 +86,7 @@ pub fn parse_grid(text: &[u8]) -> Result<Grid, GridFault>
     Ok(Grid::of(&cells[..text.len()]))
 }
 
-// The side of a grid of so many cells.
+// The side of a grid with this number of cells.
 fn side_of(count: usize) -> Option<u8>
     ensures { MatchOption result (¬ IsSize count) (λ side. IsSize count × (side ≡ side_for count)) }
 {

@@ -1,4 +1,4 @@
-//! Calls of a rank whose server's letters stand in its mailbox beforehand.
+//! Calls of a rank whose server's letters are in its mailbox beforehand.
 
 ghost use Rattle.std.specs.Prelude.{◌≡◌, false, IfOk};
 ghost use Rattle.actor_desk.specs.Desks.{IsNew};
@@ -303,7 +303,7 @@ fn told_of_call<A: Adlb>(link: &mut A, alloc: Global, does: Does) -> Told
     }
 }
 
-// How many calls were answered, if each is told what stands beside it.
+// How many calls were answered, if each is told what is written beside it.
 fn are_told<A: Adlb>(link: &mut A, alloc: Global, calls: &[(Does, Told)]) -> Option<usize>
     requires { has_finished (A.link link.old).said ≡ false }
     ensures { has_finished (A.link link.new).said ≡ false }

@@ -11,6 +11,7 @@ use Rattle.tour_app.specs.Output.{tour_text}
 use Rattle.tour_app.specs.Found.{HoldLeast, all_found, best_from, better}
 use Rattle.tour_app.specs.declared.outcomes.TourOutcome.{TourOutcome}
 
+-- the best of two lists is the best of the second from that of the first on
 pub best_append : (best : Option (ℕ × List ℕ)) (xs ys : List (ℕ × List ℕ)) → best_from best (xs ++ ys) ≡ best_from (best_from best xs) ys
 best_append best [] ys = refl
 best_append best (x ∷ xs) ys = best_append (better best x) xs ys
@@ -99,6 +100,7 @@ pub record IsPicked (n : ℕ) (c : Costs) (o : Option (ℕ × List ℕ)) : Type 
 least_good : (n : ℕ) (c : Costs) (a b : List ℕ) → IsLeast n c a → IsTour n b → IsAsGood c a b
 least_good n c a b is of = record { cheap = is.cheapest b of; first = is.first b of }
 
+-- the best of what holds a least tour is a least tour
 pub picks_least : (n : ℕ) (c : Costs) (found : List (ℕ × List ℕ)) → HoldLeast n c found → IsPicked n c (best_from None found)
 picks_least n c [] hold = absurd (none_there (cost c hold.least, hold.least) hold.there)
 picks_least n c (x ∷ found) hold =
@@ -115,6 +117,7 @@ picks_least n c (x ∷ found) hold =
       is = b.is ∙ ap (λ k. Some (pair k b.f.1)) (b.costed.1 ∙ ap (cost c) one) ∙ ap (λ t. Some (pair (cost c hold.least) t)) one;
     }
 
+-- what holds a least tour has a best
 pub no_pick : (n : ℕ) (c : Costs) (found : List (ℕ × List ℕ)) → HoldLeast n c found → None ≡ best_from None found → ⊥
 no_pick n c found hold none =
     let p = picks_least n c found hold in

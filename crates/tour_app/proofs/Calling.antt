@@ -9,7 +9,7 @@ use Rattle.tour_app.specs.Works.{tours}
 use Rattle.tour_app.specs.declared.program.TourProgram.{TourProgram}
 use Rattle.tour_app.specs.declared.units.TourUnit.{TourUnit}
 
--- a call behind others
+-- a call after others
 pub goes_snoc : (b : Books TourUnit) (said : List Said) (mid next : Books TourUnit) (s : Said) → Goes tours b said mid
     → Moves tours mid s next →
     Goes tours b (said ++ s ∷ []) next
@@ -55,5 +55,6 @@ goes_front : (b : Books TourUnit) (said more : List Said) (last : Books TourUnit
 goes_front b [] more last goes = (b, refl)
 goes_front b (s ∷ said) more last goes = let later = goes_front goes.0 said more last goes.2 in (later.0, (goes.0, goes.1, later.1))
 
+-- the front of a transcript is a transcript so far
 pub so_front : (p : TourProgram) (said more : List Said) → IsSoFar p (said ++ more) → IsSoFar p said
 so_front p said more is = let front = goes_front (begins p) said more is.last is.goes in record { last = front.0; goes = front.1 }

@@ -18,6 +18,7 @@ use Rattle.tour_app.proofs.StartTests.{IsWhole, test_of_whole, whole_of_test}
 
 -- A list end to end, one piece more.
 
+-- one element more of what is written
 pub flat_step : (f : ℕ → List ℕ) (first xs : List ℕ) (i : ℕ) → i < length xs →
     (first ++ flat_map f (take i xs)) ++ f (get_or xs i 0) ≡ first ++ flat_map f (take (i + 1) xs)
 flat_step f first xs i below =
@@ -25,17 +26,20 @@ flat_step f first xs i below =
     ∙ ap (λ l. first ++ l) (sym (ap (flat_map f) (take_more xs i 0 below) ∙ flat-append f (take i xs) (get_or xs i 0 ∷ [])
     ∙ ap (λ l. flat_map f (take i xs) ++ l) (append-nil (f (get_or xs i 0)))))
 
+-- each number is written as four bytes
 pub length-words : (rows : List ℕ) → length (words rows) ≡ 4 * length rows
 length-words [] = refl
 length-words (x ∷ rows) = let more = length-words rows in omega (arith, more)
 
 -- Numbers that are read one by one.
 
+-- what is read so far: some numbers, and what follows them
 pub record WordsSoFar (count : ℕ) (bytes first : List ℕ) (i : ℕ) (rest now : List ℕ) : Type 0 where
   pub read : now ++ words_in (count - i) rest ≡ first ++ words_in count bytes
   pub behind : behind_words (count - i) rest ≡ behind_words count bytes
   pub enough : 4 * (count - i) ≤ length rest
 
+-- before the first number nothing is read
 pub words_start : (count : ℕ) (bytes first : List ℕ) → 4 * count ≤ length bytes → WordsSoFar count bytes first 0 bytes first
 words_start count bytes first enough =
     let e : count - 0 ≡ count = omega arith in
@@ -45,6 +49,7 @@ words_start count bytes first enough =
       enough = omega arith;
     }
 
+-- one number more is read
 pub words_more : (count : ℕ) (bytes first : List ℕ) (i : ℕ) (rest now next new : List ℕ) (x : ℕ) → WordsSoFar count bytes first i rest now →
     i < count → x ≡ from_be_bytes w32 (take 4 rest) → next ≡ drop 4 rest → new ≡ now ++ x ∷ []
     → WordsSoFar count bytes first (i + 1) next new
@@ -62,6 +67,7 @@ words_more count bytes first i rest now next new x far within is on more =
       enough = let long = length-drop 4 rest in let short = ap length on in omega (arith, far.enough, long, short);
     }
 
+-- after the last number all are read
 pub words_end : (count : ℕ) (bytes first : List ℕ) (i : ℕ) (rest now : List ℕ) → WordsSoFar count bytes first i rest now → count ≤ i →
     now ≡ first ++ words_in count bytes
 unfolding words_in
@@ -69,6 +75,7 @@ words_end count bytes first i rest now far past =
     let none : count - i ≡ 0 = omega arith in
     sym (append-nil now) ∙ sym (ap (λ k. now ++ words_in k rest) none) ∙ far.read
 
+-- after the last number what follows is left
 pub behind_end : (count : ℕ) (bytes first : List ℕ) (i : ℕ) (rest now : List ℕ) → WordsSoFar count bytes first i rest now → count ≤ i →
     rest ≡ behind_words count bytes
 unfolding behind_words
@@ -78,6 +85,7 @@ behind_end count bytes first i rest now far past =
 
 -- What is read has as many numbers.
 
+-- as many numbers are read as are asked for
 pub length-words_in : (n : ℕ) (bytes : List ℕ) → length (words_in n bytes) ≡ n
 unfolding words_in
 length-words_in zero bytes = refl
@@ -100,6 +108,7 @@ rest_back (x ∷ rows) rest = rest_back rows rest
 
 -- What a common part says.
 
+-- no bytes are no start
 pub none_shared : (bytes : List ℕ) → length bytes ≡ 0 → None ≡ shared bytes
 unfolding shared
 none_shared [] e = refl
@@ -110,15 +119,18 @@ pub first_rest : (bytes : List ℕ) → 0 < length bytes → bytes ≡ get_or by
 first_rest [] some = absurd (omega arith)
 first_rest (n ∷ bytes) some = refl
 
+-- bytes are a start exactly if they are as long as their number of cities asks
 pub shared_is : (n : ℕ) (bytes : List ℕ) → shared (n ∷ bytes) ≡ cond (is_sized n bytes) (start_if n bytes) None
 unfolding shared
 shared_is n bytes = refl
 
+-- a number of cities within its limits, with bytes enough for the ways
 pub record IsSized (n : ℕ) (bytes : List ℕ) : Type 0 where
   pub some : 1 ≤ n
   pub few : n ≤ 12
   pub enough : 4 * (n * n) ≤ length bytes
 
+-- bytes that pass the test have their size
 pub sized : (n : ℕ) (bytes : List ℕ) → is_sized n bytes ≡ true → IsSized n bytes
 sized n bytes e =
     let parts = and_parts (nat_le 1 n && nat_le n 12) (nat_le (4 * (n * n)) (length bytes)) e in
@@ -129,6 +141,7 @@ sized n bytes e =
       enough = leb-true (4 * (n * n)) (length bytes) parts.1;
     }
 
+-- bytes that pass the tests have cities
 pub cities_of : (n : ℕ) (bytes rows tour : List ℕ) → is_sized n bytes ≡ true → rows ≡ words_in (n * n) bytes → is_whole n rows tour ≡ true →
     AreCities (record { count = n; rows = rows })
 cities_of n bytes rows tour fits is whole =
@@ -142,6 +155,7 @@ cities_of n bytes rows tour fits is whole =
 
 -- A common part is read back.
 
+-- a start is read back from its common part
 pub read_back : (s : StartModel) → IsStart s → shared (common_part s) ≡ Some s
 unfolding common_part
 read_back s is =
@@ -165,15 +179,18 @@ read_back s is =
 
 -- What is read of bytes, by their parts.
 
+-- a result that is one value is an equal one
 pub if_ok_same : {X E : Type 0} (r : Result X E) (a b : X) → a ≡ b → IfOk r (λ x. x ≡ a) → IfOk r (λ x. x ≡ b)
 if_ok_same (Ok x) a b same is = is ∙ same
 if_ok_same (Err e) a b same is = tt
 
+-- a result that is a short list is short
 pub if_ok_short : {E : Type 0} (n : ℕ) (r : Result (List ℕ) E) (a : List ℕ) → length a ≤ n → IfOk r (λ x. x ≡ a)
     → IfOk r (λ x. length x ≤ n)
 if_ok_short n (Ok x) a few is = omega (arith, few, ap length is)
 if_ok_short n (Err e) a few is = tt
 
+-- the common part, as it is written piece by piece
 pub common_is : (s : StartModel) (n : ℕ) (rows first none one more all : List ℕ) → n ≡ s.cities.count → rows ≡ s.cities.rows
     → first ≡ s.first →
     none ≡ [] → one ≡ none ++ n ∷ [] → more ≡ one ++ words rows → all ≡ more ++ first → all ≡ common_part s
@@ -183,6 +200,7 @@ common_is s n rows first none one more all n_is rows_are first_is none_is one_is
     ∙ ap (λ k. k ∷ (words rows ++ first)) n_is ∙ ap (λ l. s.cities.count ∷ (words l ++ first)) rows_are
     ∙ ap (λ l. s.cities.count ∷ (words s.cities.rows ++ l)) first_is
 
+-- a common part has at most 1,048,576 bytes
 pub common_short : (s : StartModel) → AreCities s.cities → IsTour s.cities.count s.first → length (common_part s) ≤ 1048576
 unfolding common_part
 common_short s are is =
@@ -206,20 +224,24 @@ shared_by : (bytes rest : List ℕ) (n : ℕ) → (length bytes ≡ 0 → ⊥) �
 shared_by bytes rest n some n_is rest_is =
     first_rest bytes (not_empty bytes some) ∙ ap (λ k. k ∷ drop 1 bytes) (sym n_is) ∙ ap (λ l. n ∷ l) (sym rest_is)
 
+-- bytes of another size are no start
 pub none_sized : (bytes rest : List ℕ) (n : ℕ) (t : Bool) → (length bytes ≡ 0 → ⊥) → n ≡ get_or bytes 0 0 → rest ≡ drop 1 bytes →
     t ≡ is_sized n rest → t ≡ false → None ≡ shared bytes
 none_sized bytes rest n t some n_is rest_is is fails =
     sym (ap shared (shared_by bytes rest n some n_is rest_is) ∙ shared_is n rest ∙ ap (λ b. cond b (start_if n rest) None) (sym is ∙ fails))
 
+-- bytes of their size are the start that they have
 pub some_sized : (bytes rest : List ℕ) (n : ℕ) (t : Bool) → (length bytes ≡ 0 → ⊥) → n ≡ get_or bytes 0 0 → rest ≡ drop 1 bytes →
     t ≡ is_sized n rest → t ≡ true → start_if n rest ≡ shared bytes
 some_sized bytes rest n t some n_is rest_is is holds =
     sym (ap shared (shared_by bytes rest n some n_is rest_is) ∙ shared_is n rest ∙ ap (λ b. cond b (start_if n rest) None) (sym is ∙ holds))
 
+-- bytes that pass the tests have cities
 pub cities_by : (n : ℕ) (bytes rows seen tour : List ℕ) (t : Bool) → is_sized n bytes ≡ true → rows ≡ words_in (n * n) bytes → seen ≡ rows →
     t ≡ is_whole n seen tour → t ≡ true → AreCities (record { count = n; rows = rows })
 cities_by n bytes rows seen tour t fits read same is holds =
     cities_of n bytes rows tour fits read (ap (λ l. is_whole n l tour) (sym same) ∙ sym is ∙ holds)
 
+-- bytes that pass the test have a tour
 pub tour_by : (n : ℕ) (seen tour : List ℕ) (t : Bool) → t ≡ is_whole n seen tour → t ≡ true → IsTour n tour
 tour_by n seen tour t is holds = (whole_of_test n seen tour (sym is ∙ holds)).tour_is

@@ -25,12 +25,14 @@ pub made_is : (common : List ℕ) (unit : TourUnit) (o : Option TourUnit) → o 
     made_by tours (arrival tours common unit) ≡ option_to_list o
 made_is common unit o e = ap option_to_list (over_same common unit ∙ sym e)
 
+-- what a unit makes is put in front of what waits
 pub front_is : (common : List ℕ) (unit : TourUnit) (o : Option TourUnit) (old mid new : List TourUnit)
     → o ≡ made_of common unit → mid ≡ old →
     new ≡ option_to_list o ++ mid → new ≡ made_by tours (arrival tours common unit) ++ old
 front_is common unit o old mid new e same more =
     more ∙ ap (λ l. option_to_list o ++ l) same ∙ ap (λ l. l ++ old) (sym (made_is common unit o e))
 
+-- what a unit makes is put after what waits
 pub back_is : (common : List ℕ) (unit : TourUnit) (o : Option TourUnit) (old mid new : List TourUnit)
     → o ≡ made_of common unit → mid ≡ old →
     new ≡ mid ++ option_to_list o → new ≡ old ++ made_by tours (arrival tours common unit)
@@ -45,11 +47,13 @@ brings_by common front unit read old new r same is brings =
 
 -- Units that come one after the other.
 
+-- what a rank has taken over so far of a refused batch
 pub record OverSoFar (common : List ℕ) (all : List TourUnit) (old now : Desk) (left : List TourUnit) : Type 0 where
   pub waiting : now.waiting.items ++ flat_map (made_by tours) (over_bytes tours common left)
       ≡ old.waiting.items ++ flat_map (made_by tours) (over_bytes tours common all)
   pub found_are : now.found.items ++ found (over_bytes tours common left) ≡ old.found.items ++ found (over_bytes tours common all)
 
+-- one unit more of the batch is taken over
 pub over_more : (common : List ℕ) (all : List TourUnit) (old now next : Desk) (left rest : List TourUnit) (unit : TourUnit) →
     OverSoFar common all old now left → left ≡ unit ∷ rest →
     next.waiting.items ≡ now.waiting.items ++ made_by tours (arrival tours common unit)
@@ -65,6 +69,7 @@ over_more common all old now next left rest unit far is waits stays =
           ∙ ap (λ l. now.found.items ++ found (over_bytes tours common l)) (sym is) ∙ far.found_are;
     }
 
+-- after its last unit the batch is taken over
 pub over_end : (common : List ℕ) (all : List TourUnit) (old now : Desk) (left : List TourUnit) → OverSoFar common all old now left →
     left ≡ [] → TakesOver common all old now
 over_end common all old now left far none = record {

@@ -8,6 +8,7 @@ use Rattle.work_law.specs.Work.{Arrival, Work, arrival, made_by}
 use Rattle.tour_app.specs.Works.{found, found_at, found_in, left_over, tours}
 use Rattle.tour_app.specs.declared.units.TourUnit.{TourUnit}
 
+-- what is made of two lists is what is made of each, one after the other
 pub flat-append : {X Y : Type 0} (f : X → List Y) (xs ys : List X) → flat_map f (xs ++ ys) ≡ flat_map f xs ++ flat_map f ys
 flat-append f [] ys = refl
 flat-append f (x ∷ xs) ys = ap (λ l. f x ++ l) (flat-append f xs ys) ∙ sym (append_assoc (f x) (flat_map f xs) (flat_map f ys))
@@ -23,14 +24,18 @@ pub left_waiting : (units : List TourUnit) (rest : List (Task TourUnit)) → lef
 left_waiting [] rest bare = bare
 left_waiting (x ∷ units) rest bare = ap (λ l. found_in x ++ l) (left_waiting units rest bare)
 
+-- tasks that put two lists are those of each
 pub put_more : (xs ys : List TourUnit) (rest : List (Task TourUnit)) → put_all (xs ++ ys) ++ rest ≡ put_all xs ++ (put_all ys ++ rest)
 put_more xs ys rest = ap (λ ts. ts ++ rest) (map-append Put xs ys) ∙ append_assoc (put_all xs) (put_all ys) rest
 
+-- a list with one element more is no shorter than before
 pub grows : {X : Type 0} (n : ℕ) (xs new : List X) (x : X) → n ≤ length xs → new ≡ xs ++ x ∷ [] → n ≤ length new
 grows n xs new x h e = omega (arith, h, length_push xs x, ap length e)
 
+-- where the test passes, the first case is so
 pub all_is : (A B : Type 0) (b : Bool) → b ≡ true → MatchBool b A B → A
 all_is A B b holds fact = subst (λ t. MatchBool t A B) holds fact
 
+-- where the test fails, the second case is so
 pub not_all_is : (A B : Type 0) (b : Bool) → b ≡ false → MatchBool b A B → B
 not_all_is A B b fails fact = subst (λ t. MatchBool t A B) fails fact

@@ -17,6 +17,7 @@ use Rattle.tour_app.specs.Works.{answer_of, is_pair, pair_tour}
 use Rattle.tour_app.specs.declared.units.TourUnit.{TourUnit}
 use Rattle.tour_app.specs.declared.units.TourUnit.TheVariants.{Answer}
 
+-- two cities that differ, neither of them city 0
 pub record IsPair (n a b : ℕ) : Type 0 where
   pub a_some : 1 ≤ a
   pub a_below : a < n
@@ -24,6 +25,7 @@ pub record IsPair (n a b : ℕ) : Type 0 where
   pub b_below : b < n
   pub other : a ≡ b → ⊥
 
+-- cities that pass the test are a pair
 pub pair_of_test : (n a b : ℕ) → is_pair n a b ≡ true → IsPair n a b
 pair_of_test n a b e =
     let parts = and_parts ((nat_le 1 a && nat_lt a n) && (nat_le 1 b && nat_lt b n)) (not (a == b)) e in
@@ -84,6 +86,7 @@ answer_is s a b cost_found tour is price better =
     ap (λ k. Some (made k tour)) (price ∙ ap (cost (costs s)) is) ∙ ap (λ t. Some (made (cost (costs s) (pair_tour s a b)) t)) is
     ∙ ap (λ t. cond t (Some full) None) (sym (sym (ap (λ t. is_better (costs s) t s.first) is) ∙ better))
 
+-- if no tour of the pair is better than the first, it has no answer
 pub no_answer : (s : StartModel) (a b : ℕ) (tour : List ℕ) → tour ≡ pair_tour s a b → is_better (costs s) tour s.first ≡ false →
     None ≡ answer_of s a b
 unfolding answer_of

@@ -68,5 +68,6 @@ aimed : (ranks : ℕ) (unit : TourUnit) → 0 < ranks → IsAimed ranks (form un
 aimed ranks (Pair a b) some = tt
 aimed ranks (Answer price tour) some = some
 
+-- tours are programs of units as the law of work asks
 pub is_work : IsWork tours
 is_work = record { read_back = back; plain = plain; aimed = aimed }

@@ -16,6 +16,7 @@ all_of p P means (x ∷ xs) e =
     let parts = and_parts (p x) (list_all p xs) e in
     All-cons P x xs (means x parts.0) (all_of p P means xs parts.1)
 
+-- if each element has the property, all pass
 pub passes_all : (p : ℕ → Bool) (P : ℕ → Type 0) → ((x : ℕ) → P x → p x ≡ true) → (xs : List ℕ) → All P xs → list_all p xs ≡ true
 passes_all p P means [] all = refl
 passes_all p P means (x ∷ xs) all =
@@ -31,7 +32,7 @@ is_home : (tour : List ℕ) → slice_get tour 0 ≡ Some 0 → begins_at_home t
 is_home [] e = absurd (cc)
 is_home (x ∷ rest) e = eq-eqb x 0 (let f : x ≡ 0 = cc in f)
 
--- how often a city stands there
+-- how often a city is there
 abbrev times : ℕ → List ℕ → ℕ
 times city tour = count_by (λ x. x == city) tour
 
@@ -52,16 +53,19 @@ once_each (suc n) tour once =
     and_from (has_each n tour) (times n tour == 1) (once_each n tour (λ k below. once k (omega arith)))
     (eq-eqb (times n tour) 1 (once n (omega arith)))
 
+-- a tour has each of no cities
 pub none_each : (tour : List ℕ) → has_each 0 tour ≡ true
 unfolding has_each
 none_each tour = refl
 
+-- a tour has each of one city more, if it has it once
 pub more_each : (n : ℕ) (tour : List ℕ) → has_each n tour ≡ true → times n tour ≡ 1 → has_each (n + 1) tour ≡ true
 unfolding has_each
 more_each n tour e one =
     let next : n + 1 ≡ suc n = omega arith in
     ap (λ k. has_each k tour) next ∙ and_from (has_each n tour) (times n tour == 1) e (eq-eqb (times n tour) 1 one)
 
+-- a tour that does not have a city once does not have each
 pub not_each : (n k : ℕ) (tour : List ℕ) → k < n → (times k tour ≡ 1 → ⊥) → has_each n tour ≡ false
 not_each n k tour below never = at (has_each n tour) refl
   where
@@ -69,6 +73,7 @@ not_each n k tour below never = at (has_each n tour) refl
     at false e = refl
     at true e = absurd (never (each_once n tour (sym e) k below))
 
+-- a list that passes the test is a tour
 pub tour_of_test : (n : ℕ) (tour : List ℕ) → is_tour n tour ≡ true → IsTour n tour
 tour_of_test n tour e =
     let parts = and_parts (begins_at_home tour && list_all (λ city. nat_lt city n) tour) (has_each n tour) e in
@@ -79,6 +84,7 @@ tour_of_test n tour e =
       cities = all_of (λ city. nat_lt city n) (λ x. x < n) (λ x e. ltb-true x n e) tour front.1;
     }
 
+-- a tour passes the test
 pub test_of_tour : (n : ℕ) (tour : List ℕ) → IsTour n tour → is_tour n tour ≡ true
 test_of_tour n tour is =
     and_from (begins_at_home tour && list_all (λ city. nat_lt city n) tour) (has_each n tour)
@@ -88,10 +94,12 @@ test_of_tour n tour is =
 
 -- Costs and a tour.
 
+-- a start's ways are low, and its first tour is one
 pub record IsWhole (n : ℕ) (rows tour : List ℕ) : Type 0 where
   pub low : All (λ x. x ≤ 1000000) rows
   pub tour_is : IsTour n tour
 
+-- a start that passes the test is whole
 pub whole_of_test : (n : ℕ) (rows tour : List ℕ) → is_whole n rows tour ≡ true → IsWhole n rows tour
 whole_of_test n rows tour e =
     let parts = and_parts (list_all (λ cost. nat_le cost 1000000) rows) (is_tour n tour) e in
@@ -100,6 +108,7 @@ whole_of_test n rows tour e =
       tour_is = tour_of_test n tour parts.1;
     }
 
+-- a start that is whole passes the test
 pub test_of_whole : (n : ℕ) (rows tour : List ℕ) → All (λ x. x ≤ 1000000) rows → IsTour n tour → is_whole n rows tour ≡ true
 test_of_whole n rows tour low is =
     and_from (list_all (λ cost. nat_le cost 1000000) rows) (is_tour n tour)

@@ -48,6 +48,7 @@ stays p d e came same is = ap (λ f. f.items) same ∙ is
 
 -- Puts.
 
+-- a put that is accepted is a step of the program
 pub accepted_is : (p : TourProgram) (said new : List Said) (d e : Desk) (x : TourUnit) (rest : List (Task TourUnit))
     (on : Option (List ℕ)) →
     IsGoing p said d rest on → Popped x d e → fits x ≡ true → new ≡ said ++ said_of (put_of tours x) Fine ∷ [] → IsGoing p new e rest on
@@ -75,6 +76,7 @@ received_stays p a e f came more is =
     more.found_are ∙ ap (λ l. l ++ found_in a.unit) is ∙ append_assoc (known p.start) (found came) (found_in a.unit)
     ∙ ap (λ l. known p.start ++ l) (sym (found_more came a))
 
+-- a put that is rejected is a step, and the rank works the unit itself
 pub rejected_is : (p : TourProgram) (said new : List Said) (d e f : Desk) (x : TourUnit) (common : List ℕ) (rest : List (Task TourUnit))
     (on : Option (List ℕ)) →
     IsGoing p said d rest on → bytes_on on ≡ common → Popped x d e → new ≡ said ++ said_of (put_of tours x) Rejected ∷ [] →
@@ -97,6 +99,7 @@ pub record PutBack (x : TourUnit) (e f : Desk) : Type 0 where
   pub first : f.waiting.items ≡ x ∷ e.waiting.items
   pub same : f.found ≡ e.found
 
+-- a put that ends stops the program
 pub stopped_is : (p : TourProgram) (said new : List Said) (d e f : Desk) (x : TourUnit) (end : told_end.End) (rest : List (Task TourUnit))
     (on : Option (List ℕ)) →
     IsGoing p said d rest on → Popped x d e → PutBack x e f → new ≡ said ++ said_of (put_of tours x) (Ended end) ∷ [] → IsStopped p new f on
@@ -136,6 +139,7 @@ rejected_so p said new d e x rest on is popped one = record {
 
 -- Reservations and fetches.
 
+-- a reserve that ends stops the program
 pub told_is : (p : TourProgram) (said new : List Said) (d : Desk) (end : told_end.End) → HasPut p said d [] None →
     new ≡ said ++ said_of (Reserve None) (Ended end) ∷ [] → IsStopped p new d None
 told_is p said new d end put one = record {
@@ -155,6 +159,7 @@ goes_granted p said new d note put one =
     one_more p said new (on_desk d.waiting.items [] None put.going.came) (holding note put.going.came) (grant note) put.going.goes one
     (granted put.going.came note (desk_same [] None put.going.came put.none) refl refl)
 
+-- a reserve that is granted is a step of the program
 pub granted_so : (p : TourProgram) (said new : List Said) (d : Desk) (note : UnitNote) → HasPut p said d [] None →
     new ≡ said ++ grant note ∷ [] → IsSoFar p new
 granted_so p said new d note put one = record { last = holding note put.going.came; goes = goes_granted p said new d note put one }
@@ -168,6 +173,7 @@ goes_brought p said new d note bytes next put one is =
     one_more p (said ++ grant note ∷ []) new (holding note put.going.came) next (said_of (Fetch note.id) (Body bytes))
     (goes_granted p said (said ++ grant note ∷ []) d note put refl) one (fetched put.going.came note bytes refl refl is)
 
+-- a unit that is fetched is a step of the program
 pub brought_so : (p : TourProgram) (said new : List Said) (d : Desk) (note : UnitNote) (bytes : List ℕ) → HasPut p said d [] None →
     new ≡ (said ++ grant note ∷ []) ++ said_of (Fetch note.id) (Body bytes) ∷ [] → IsSoFar p new
 brought_so p said new d note bytes put one = record {
@@ -176,6 +182,7 @@ brought_so p said new d note bytes put one = record {
       (brought tours (common_bytes note.length bytes) (fetched_unit tours note bytes) put.going.came) put one refl;
 }
 
+-- a unit that is fetched is worked, and the program goes on
 pub brought_is : (p : TourProgram) (said new : List Said) (d f : Desk) (note : UnitNote) (bytes : List ℕ) → HasPut p said d [] None →
     new ≡ (said ++ grant note ∷ []) ++ said_of (Fetch note.id) (Body bytes) ∷ [] →
     Brings (common_bytes note.length bytes) (fetched_unit tours note bytes) d f → IsGoing p new f [] None
@@ -210,6 +217,7 @@ pub record Filled (units : List TourUnit) (d e : Desk) : Type 0 where
   pub waiting : e.waiting.items ≡ units
   pub same : e.found ≡ d.found
 
+-- a batch that is begun has its units to put, and then its end
 pub begun_is : (p : TourProgram) (said new : List Said) (d e : Desk) (common : List ℕ) (units : List TourUnit) →
     IsGoing p said d (Begin common units ∷ []) None → d.waiting.items ≡ [] → Filled units d e →
     new ≡ said ++ said_of (BeginBatch common) Fine ∷ [] → IsGoing p new e (End ∷ []) (Some common)
@@ -231,6 +239,7 @@ over_stays p d e common units came over is =
     over.found_are ∙ ap (λ l. l ++ found more) is ∙ append_assoc (known p.start) (found came) (found more)
     ∙ ap (λ l. known p.start ++ l) (sym (flat-append (λ (a : Arrival TourUnit). found_in a.unit) came more))
 
+-- a batch that is refused is worked by the rank itself
 pub refused_is : (p : TourProgram) (said new : List Said) (d e : Desk) (common : List ℕ) (units : List TourUnit) →
     IsGoing p said d (Begin common units ∷ []) None → d.waiting.items ≡ [] → new ≡ said ++ said_of (BeginBatch common) Rejected ∷ [] →
     TakesOver common units d e → IsGoing p new e [] None
@@ -247,6 +256,7 @@ refused_is p said new d e common units is none one over =
       bare = refl;
     }
 
+-- a batch that is refused is a step of the program
 pub refused_so : (p : TourProgram) (said new : List Said) (d : Desk) (common : List ℕ) (units : List TourUnit) →
     IsGoing p said d (Begin common units ∷ []) None → d.waiting.items ≡ [] → new ≡ said ++ said_of (BeginBatch common) Rejected ∷ [] →
     IsSoFar p new
@@ -257,6 +267,7 @@ refused_so p said new d common units is none one = record {
       (refused common units [] is.came (desk_same (Begin common units ∷ []) None is.came none) refl refl);
 }
 
+-- a batch that ends before it is begun stops the program
 pub unbegun_is : (p : TourProgram) (said new : List Said) (d e : Desk) (common : List ℕ) (units : List TourUnit) (end : told_end.End) →
     IsGoing p said d (Begin common units ∷ []) None → d.waiting.items ≡ [] → Filled units d e →
     new ≡ said ++ said_of (BeginBatch common) (Ended end) ∷ [] → IsStopped p new e None
@@ -307,6 +318,7 @@ passes_closed p said new d common rest false bare is one = closed_behind_is p sa
 
 -- The calls so far.
 
+-- a rank that goes on has run its program so far
 pub going_so : (p : TourProgram) (said new : List Said) (d : Desk) (rest : List (Task TourUnit)) (on : Option (List ℕ)) →
     IsGoing p said d rest on → new ≡ said → IsSoFar p new
 going_so p said new d rest on is same = record {
@@ -314,9 +326,11 @@ going_so p said new d rest on is same = record {
   goes = subst (λ t. Goes tours (begins p) t (on_desk d.waiting.items rest on is.came)) (sym same) is.goes;
 }
 
+-- a rank that stopped has run its program so far
 pub ended_so : (p : TourProgram) (said : List Said) (d : Desk) (on : Option (List ℕ)) → IsStopped p said d on → IsSoFar p said
 ended_so p said d on is = record { last = shut (put_all d.waiting.items ++ is.rest) on is.came; goes = is.goes }
 
+-- a rank that goes on or stopped has run its program so far
 pub passes_so : (p : TourProgram) (said : List Said) (d : Desk) (rest : List (Task TourUnit)) (on : Option (List ℕ)) (all : Bool) →
     Passes p said d rest on all → IsSoFar p said
 passes_so p said d rest on true put = going_so p said said d rest on put.going refl
@@ -343,6 +357,7 @@ bare_tasks : (start : Option StartModel) → left_over (tasks start) ≡ []
 bare_tasks None = refl
 bare_tasks (Some s) = bare_if (nat_lt s.cities.count 4) (common_part s) (pairs s.cities.count)
 
+-- a rank begins with the tasks of its start
 pub starts : (p : TourProgram) (d : Desk) → d.waiting.items ≡ [] → d.found.items ≡ known p.start → IsGoing p [] d (tasks p.start) None
 starts p d none kept = record {
   came = [];
@@ -364,6 +379,7 @@ many_tasks : (s : StartModel) → 4 ≤ s.cities.count → tasks (Some s) ≡ Be
 many_tasks s many =
     ap (λ b. cond b [] (Begin (common_part s) (pairs s.cities.count) ∷ [])) (le-ltb s.cities.count 4 many)
 
+-- a rank without a start has nothing to put
 pub none_put : (p : TourProgram) (said : List Said) (d : Desk) → p.start ≡ None → d.waiting.items ≡ [] →
     IsGoing p said d (tasks p.start) None → HasPut p said d [] None
 none_put p said d none empty is = record {
@@ -371,6 +387,7 @@ none_put p said d none empty is = record {
   none = empty;
 }
 
+-- a rank with fewer than four cities has nothing to put
 pub few_put : (p : TourProgram) (said : List Said) (d : Desk) (s : StartModel) → p.start ≡ Some s → s.cities.count < 4 →
     d.waiting.items ≡ [] → IsGoing p said d (tasks p.start) None → HasPut p said d [] None
 few_put p said d s some few empty is = record {
@@ -378,6 +395,7 @@ few_put p said d s some few empty is = record {
   none = empty;
 }
 
+-- a rank with four cities or more begins a batch of all pairs
 pub many_next : (p : TourProgram) (said : List Said) (d : Desk) (s : StartModel) (common : List ℕ) (count : ℕ) → p.start ≡ Some s →
     4 ≤ s.cities.count → common ≡ common_part s → count ≡ s.cities.count → IsGoing p said d (tasks p.start) None →
     IsGoing p said d (Begin common (pairs count) ∷ []) None

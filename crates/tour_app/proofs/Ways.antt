@@ -32,6 +32,7 @@ began_pends (Some trouble) was call now begun whole began = absurd (cc)
 pub none_pends : (failed : Option Trouble) (begun : Option Call) → failed ≡ None → unanswered failed begun ≡ None
 none_pends failed begun whole = ap (λ f. unanswered f begun) whole
 
+-- a rank whose link has not failed is under way with nothing begun
 pub whole_way : (p : TourProgram) (said : List Said) (failed : Option Trouble) (begun : Option Call) → failed ≡ None → IsSoFar p said →
     IsUnderWay p said (unanswered failed begun)
 whole_way p said failed begun whole so = subst (λ x. IsUnderWay p said x) (sym (none_pends failed begun whole)) so
@@ -78,7 +79,7 @@ end_way p said new d common rest all begun bare is same pends =
     (passes_so p (new ++ s ∷ []) d rest None all
     (passes_closed p said (new ++ s ∷ []) d common rest all bare is (plus_same said new s same))) pends
 
--- a reservation failed, or the fetch behind it
+-- a reservation failed, or the fetch after it
 pub take_way : (p : TourProgram) (said new : List Said) (d : Desk) (begun : Option Call) → HasPut p said d [] None →
     Fails said new begun → IsUnderWay p new begun
 take_way p said new d begun put (inl fails) =

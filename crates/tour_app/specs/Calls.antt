@@ -10,6 +10,7 @@ use Rattle.adlb_rank.specs.declared.replies.Reply.TheVariants as replies
 use Rattle.rank_client.specs.Calls.{Pends}
 use Rattle.work_law.specs.Books.{said_of}
 
+-- the reply is that the call was accepted
 abbrev pub is_accepted : Reply → Bool
 is_accepted replies.Accepted = true
 is_accepted _ = false

@@ -16,7 +16,7 @@ abbrev pub Brings : List ℕ → Option TourUnit → Desk → Desk → Type 0
 Brings common None old new = new ≡ old
 Brings common (Some unit) old new = Receives (arrival tours common unit) old new
 
--- the units of a batch came that no server takes: what the work on them makes waits behind all else
+-- the units of a batch came that no server takes: what the work on them makes waits after all else
 pub record TakesOver (common : List ℕ) (units : List TourUnit) (old new : Desk) : Type 0 where
   pub waiting : new.waiting.items ≡ old.waiting.items ++ flat_map (made_by tours) (over_bytes tours common units)
   pub found_are : new.found.items ≡ old.found.items ++ found (over_bytes tours common units)

@@ -19,13 +19,13 @@ pub record IsSoFar (p : TourProgram) (said : List Said) : Type 0 where
   pub last : Books TourUnit
   pub goes : Goes tours (begins p) said last
 
--- those, and the call that it has begun behind them and that is not answered, if there is one: with some answer it is the next
+-- those, and the call that it has begun after them and that is not answered, if there is one: with some answer it is the next
 abbrev pub IsUnderWay : TourProgram → List Said → Option Call → Type 0
 IsUnderWay p said None = IsSoFar p said
 IsUnderWay p said (Some call) = (answer : Answer) × IsSoFar p (said ++ said_of call answer ∷ [])
 
--- the calls that it has made at its end, which was told, and its outcome: the tour that it had at first, those that came to it, and those
--- that it was still to put
+-- The calls that it has made at its end, which was told, and its outcome. That has the tour that it had at first, those that came to it,
+-- and those that it was still to put.
 pub record Follows (p : TourProgram) (said : List Said) (outcome : TourOutcome) : Type 0 where
   pub left : List (Task TourUnit)
   pub came : List (Arrival TourUnit)

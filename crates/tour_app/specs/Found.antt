@@ -23,10 +23,12 @@ abbrev pub seen : Option Tour → Option (ℕ × List ℕ)
 seen None = None
 seen (Some t) = Some (t.cost, t.cities.items)
 
+-- the better of the best and one tour
 abbrev pub better : Option (ℕ × List ℕ) → ℕ × List ℕ → Option (ℕ × List ℕ)
 better None f = Some f
 better (Some b) f = if beats f.0 f.1 b.0 b.1 then Some f else Some b
 
+-- the best of these tours and of the one so far
 abbrev pub best_from : Option (ℕ × List ℕ) → List (ℕ × List ℕ) → Option (ℕ × List ℕ)
 best_from best [] = best
 best_from best (f ∷ found) = best_from (better best f) found

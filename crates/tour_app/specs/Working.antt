@@ -48,7 +48,7 @@ pub record IsReady (m : LinkModel) : Type 0 where
   pub whole : m.failed ≡ None
   pub ranks : 0 < m.seat.ranks
 
--- the calls are those of the program, with what is begun behind them
+-- the calls are those of the program, with what is begun after them
 abbrev pub IsOnWay : TourProgram → LinkModel → Type 0
 IsOnWay p m = IsUnderWay p m.said (unanswered m.failed m.begun)
 

@@ -55,7 +55,7 @@ fn is_sized(count: u8, bytes: &[u8]) -> bool
     (1 <= count && count <= MOST_CITIES) && 4 * (count as usize * count as usize) <= bytes.len()
 }
 
-// What bytes behind the number of cities say. Its only error is `NoMemory`.
+// What the bytes after the number of cities say. Its only error is `NoMemory`.
 fn read_sized(alloc: Global, count: u8, bytes: &[u8]) -> Result<Option<Start>, NoMemory>
     requires { is_sized_for count bytes.now ≡ true }
     ensures { IfOk result (λ start. start ≡ start_if count bytes.now) }
@@ -110,7 +110,7 @@ pub(crate) fn append(bytes: &mut Vec<u8>, piece: &[u8]) -> Result<(), NoMemory>
     or_no_memory(bytes.extend_from_slice(piece))
 }
 
-// Appends so many numbers, and gives the bytes behind them.
+// Appends `count` numbers, and gives the bytes after them.
 fn read_words<'a>(count: usize, bytes: &'a [u8], rows: &mut Vec<u32>) -> Result<&'a [u8], NoMemory>
     requires few { count ≤ 144 }
     requires enough { 4 * count ≤ length bytes.now }

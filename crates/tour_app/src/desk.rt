@@ -82,7 +82,7 @@ impl Desk {
         Ok(())
     }
 
-    // A unit comes to the rank, and what the work on it makes waits behind all else. Its only error is `NoMemory`.
+    // A unit comes to the rank, and what the work on it makes waits after all else. Its only error is `NoMemory`.
     fn receive_last(&mut self, alloc: Global, common: &[u8], unit: TourUnit) -> Result<(), NoMemory>
         ensures waiting { OnOk result (self.new.waiting.items ≡
             self.old.waiting.items ++ made_by tours (arrival tours common.now unit)) }
@@ -146,7 +146,7 @@ fn put_front(waiting: &mut VecDeque<TourUnit>, made: Option<TourUnit>) -> Result
     }
 }
 
-// What was made waits behind all else, if there is something. Its only error is `NoMemory`.
+// What was made, if anything, waits after all else. Its only error is `NoMemory`.
 fn put_behind(waiting: &mut VecDeque<TourUnit>, made: Option<TourUnit>) -> Result<(), NoMemory>
     ensures { OnOk result (waiting.new.items ≡ waiting.old.items ++ option_to_list made) }
 {
@@ -176,7 +176,7 @@ fn common_count(note: &UnitNote) -> usize
     }
 }
 
-/// The pairs of so many cities, in order. Its only error is `NoMemory`.
+/// The pairs of `count` cities, in order. Its only error is `NoMemory`.
 pub(crate) fn pairs_of(alloc: Global, count: u8) -> Result<VecDeque<TourUnit>, NoMemory>
     requires { 1 ≤ count }
     ensures { IfOk result (λ units. units.items ≡ pairs count) }

@@ -16,9 +16,9 @@ use rank_client::{Adlb, RankProgram};
 use std::alloc::Global;
 use std::collections::VecDeque;
 
-/// The program of a rank. If it has cities, and they are four at least, it begins a batch whose common part is the costs and the first
-/// tour, and puts each pair of cities in it; it works all pairs itself if no server keeps the common part. Then it takes units until it is
-/// told an end: it works pairs, and keeps the tours that come to it.
+/// The program of a rank. If it has four cities or more, it begins a batch whose common part is the costs and the
+/// first tour, and puts each pair of cities in it. It works all pairs itself if no server keeps the common part. Then
+/// it takes units until it is told an end: it works pairs, and keeps the tours that come to it.
 #[derive(Drop)]
 pub struct TourProgram {
     alloc: Global,
@@ -101,8 +101,8 @@ impl TourProgram {
         }
     }
 
-    // Begins a batch of these common bytes and puts the pairs of so many cities in it, or works them if no server keeps the bytes. False: an
-    // end was told.
+    // Begins a batch of these common bytes and puts the pairs of `count` cities in it, or works them if no server
+    // keeps the bytes. False: an end was told.
     fn put_batch<R: Rank>(
         &self,
         link: &mut R,

@@ -93,7 +93,7 @@ impl Start {
     }
 }
 
-/// The list is a tour of so many cities.
+/// The list is a tour of `count` cities.
 pub(crate) fn is_tour(count: u8, tour: &[u8]) -> bool
     ensures { result ≡ is_whole_tour count tour.now }
 {
@@ -117,7 +117,7 @@ fn are_cities(count: u8, tour: &[u8]) -> bool
     tour.iter().all(|city| *city < count)
 }
 
-// Each city stands there once.
+// Each city is there once.
 fn has_each(count: u8, tour: &[u8]) -> bool
     ensures { result ≡ has_each_city count tour.now }
 {
@@ -129,7 +129,7 @@ fn has_each(count: u8, tour: &[u8]) -> bool
     true
 }
 
-// How often a city stands there.
+// How often a city is there.
 fn times(tour: &[u8], city: u8) -> usize
     ensures { result ≡ count_by (λ x. x == city) tour.now }
 {

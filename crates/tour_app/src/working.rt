@@ -42,7 +42,7 @@ fn work_from(
     answer_of(alloc, start, second, third)
 }
 
-// Two different cities from 1 on, where there are so many.
+// Two different cities of these, neither of them city 0.
 fn is_pair(count: u8, second: u8, third: u8) -> bool
     ensures { result ≡ is_pair_of count second third }
 {

@@ -19,7 +19,7 @@ pub on_ok_always : {X E : Type 0} (P : Type 0) → P → (r : Result X E) → If
 on_ok_always P is (Ok x) = is
 on_ok_always P is (Err e) = tt
 
--- a text that is told of a least tour
+-- a text that names a least tour
 pub told_least : {X E : Type 0} (cities : CitiesModel) (bytes : X → List ℕ) (r : Result X E) →
     IfOk r (λ x. (tour : List ℕ) × IsLeast cities.count (costs cities) tour
     × (bytes x ≡ tour_text cities.count (cost (costs cities) tour) tour)) →

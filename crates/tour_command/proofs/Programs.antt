@@ -32,6 +32,7 @@ first_program s cities p same well is = record {
   each = λ rank q at. placed_more (IsProgramOf s) [] p is (λ k x none. absurd cc) rank.0 q at;
 }
 
+-- programs are those of the ranks with one more that has no start
 pub more_programs : (cities : CitiesModel) (programs : List TourProgram) (p : TourProgram) → 0 < length programs → p.start ≡ None →
     ArePrograms cities programs → ArePrograms cities (programs ++ p ∷ [])
 more_programs cities programs p some none are =

@@ -1,4 +1,4 @@
--- What a run over cities asks, by which programs it is run, and what is told of it.
+-- What a run over cities asks, by which programs it is run, and what is written of it.
 use Rattle.std.specs.Prelude.{◌≡◌, ℕ, List, Some, Ok, Err, slice_get}
 use Rattle.adlb_unit.specs.declared.names.Rank.{Rank}
 use Rattle.bag_ledger.specs.declared.entries.Said.{Said}

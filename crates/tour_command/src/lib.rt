@@ -2,9 +2,9 @@
 //!
 //!     let ended = tour(alloc, config, &mut input, &mut output, &mut threads, FreeGate {});
 //!
-//! `Tours` is a command of `run_command`: it asks for the cities of an input (`tour_search`), which the programs of `tour_app` search, and
-//! tells a least tour, which their outcomes hold (`least_law`). `specs/Tours.antt` says what is asked, run and told, and `specs/Ends.antt`
-//! how `tour` ends.
+//! `Tours` is a command of `run_command`. It asks for the cities of an input (`tour_search`), which the programs of
+//! `tour_app` search. It tells a least tour, which their outcomes hold (`least_law`). `specs/Tours.antt` says what is
+//! asked, run and told, and `specs/Ends.antt` how `tour` ends.
 #![tactic(auto)]
 
 mod laws;

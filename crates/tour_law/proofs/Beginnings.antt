@@ -17,11 +17,13 @@ use Rattle.tour_law.specs.Beginnings.{Continues, IsBeginning, IsOnce, path_cost}
 use Rattle.tour_law.proofs.Bound.{cut-above, cut-equal, way-split}
 use Rattle.tour_law.proofs.Once.{below-same, sum-times, times, times-same, times-other, tour-long, tour-once}
 
+-- a beginning of at least two cities: city 0, another, and the rest
 pub record HasShape (p : List ℕ) : Type 0 where
   pub a : ℕ
   pub q : List ℕ
   pub is : p ≡ 0 ∷ a ∷ q
 
+-- a beginning of a tour has a first and a last city
 pub shape : (n : ℕ) (p : List ℕ) → IsBeginning n p → HasShape p
 shape n [] is = absurd (omega (arith, is.long))
 shape n (x ∷ []) is = absurd (omega (arith, is.long))
@@ -29,6 +31,7 @@ shape n (x ∷ a ∷ q) is = let e : x ≡ 0 = let b = is.begins in cc in record
 
 -- How it goes on.
 
+-- the one tour that continues a beginning of all cities is that beginning
 pub full : (n : ℕ) (p tour : List ℕ) → length p ≡ n → IsTour n tour → Continues p tour → tour ≡ p
 full n p tour all is on = at on.0 on.1
   where
@@ -39,6 +42,7 @@ full n p tour all is on = at on.0 on.1
         let both = ap length e in
         absurd (omega (arith, long, both, length-append p (x ∷ rest)))
 
+-- a tour goes on from a beginning with a new city
 pub record GoesOn (n : ℕ) (p tour : List ℕ) : Type 0 where
   pub x : ℕ
   pub below : x < n
@@ -48,6 +52,7 @@ pub record GoesOn (n : ℕ) (p tour : List ℕ) : Type 0 where
 times-append : (x : ℕ) (p q : List ℕ) → times x (p ++ q) ≡ times x p + times x q
 times-append x p q = sum_by-append _ p q
 
+-- a tour that continues a shorter beginning visits a new city next
 pub next : (n : ℕ) (p tour : List ℕ) → length p < n → IsTour n tour → Continues p tour → GoesOn n p tour
 next n p tour less is on = at on.0 on.1
   where
@@ -74,6 +79,7 @@ times-one city x = elim (cases_eq x city) [
   | inr other ↦ omega (arith, times-other x city [] other)
 ]
 
+-- a beginning with a new city after it is a beginning
 pub longer : (n : ℕ) (p : List ℕ) (x : ℕ) → IsBeginning n p → x < n → times x p ≡ 0 → IsBeginning n (p ++ x ∷ [])
 longer n p x is below new =
     let s = shape n p is in
@@ -114,6 +120,7 @@ length-ones (x ∷ xs) = omega (arith, sum_by-cons (λ (y : ℕ). 1) x xs, lengt
 mul-one-right : (t : ℕ) → t * 1 ≡ t
 mul-one-right t = omega arith
 
+-- a beginning of all cities is a tour
 pub whole : (n : ℕ) (p : List ℕ) → IsBeginning n p → length p ≡ n → IsTour n p
 whole n p is all =
     let count : sum_below n (λ k. times k p) ≡ n =
@@ -127,6 +134,7 @@ whole n p is all =
 
 -- What it costs.
 
+-- the last city read at its place is the end
 pub end_is : (from : ℕ) (q : List ℕ) (d : ℕ) → get_or (from ∷ q) (length q) d ≡ end_of from q
 end_is from [] d = refl
 end_is from (x ∷ q) d = end_is x q d
@@ -144,6 +152,7 @@ last_at a q =
     let e : suc (suc (length q)) - 1 ≡ suc (length q) = omega arith in
     ap (λ k. get_or (0 ∷ a ∷ q) k 0) e ∙ end_is a q 0
 
+-- one more city adds the way from the last city to it
 pub path_cost-more : (n : ℕ) (c : Costs) (p : List ℕ) (y : ℕ) → IsBeginning n p
     → path_cost c (p ++ y ∷ []) ≡ path_cost c p + c (last_of p) y
 path_cost-more n c p y is =
@@ -154,6 +163,7 @@ path_cost-more n c p y is =
     ap (λ z. path_cost c (z ++ y ∷ [])) s.is ∙ more ∙ ap (λ k. c 0 s.a + path c s.a s.q + c k y) (sym l)
     ∙ ap (λ z. path_cost c z + c (last_of p) y) (sym s.is)
 
+-- a tour costs its path and the way back to city 0
 pub cost-full : (n : ℕ) (c : Costs) (p : List ℕ) → IsBeginning n p → cost c p ≡ path_cost c p + c (last_of p) 0
 cost-full n c p is =
     let s = shape n p is in
@@ -172,6 +182,7 @@ unfolding sum_below
 below-le zero f g le = omega arith
 below-le (suc n) f g le = omega (arith, below-le n f g le, le n)
 
+-- a sum over cities that differ is at most that over all cities
 pub sum-within : (n : ℕ) (f : ℕ → ℕ) (p : List ℕ) → IsOnce p → All (λ x. x < n) p → sum_by f p ≤ sum_below n f
 sum-within n f p once within =
     let e = sum-times n f p within in
@@ -192,6 +203,7 @@ then_greater Less p e = absurd (cc)
 then_greater Equal p e = inr (refl, e)
 then_greater Greater p e = inl refl
 
+-- a beginning that comes after another does not come before it, however it goes on
 pub greater_stays : (p rest known : List ℕ) → slice_cmp nat_cmp p (take (length p) known) ≡ Greater → IsBefore (p ++ rest) known → ⊥
 greater_stays [] rest known e before = absurd (cc)
 greater_stays (x ∷ p) rest [] e before = absurd (cc)
@@ -223,6 +235,7 @@ module _ (n : ℕ) (c : Costs) (out : ℕ → ℕ) (some : 0 < n) (ways : IsWayO
     its_bound : (s : HasShape p) → bound n c out s.a s.q ≡ path_cost c p + out (last_of p) + left
     its_bound s = bound_is n c out p left rest s.a s.q s.is
 
+    -- where the bound is above the best known tour, no continuation is better
     pub cut_above : cost c known < path_cost c p + out (last_of p) + left → (tour : List ℕ) → IsTour n tour → Continues p tour
         → IsAsGood c known tour
     cut_above exceeds tour of on =
@@ -230,6 +243,7 @@ module _ (n : ℕ) (c : Costs) (out : ℕ → ℕ) (some : 0 < n) (ways : IsWayO
         let b = its_bound s in
         cut-above n c out s.a s.q known some ways (omega (arith, b, exceeds)) tour of (on.0, on.1 ∙ ap (λ z. z ++ on.0) s.is)
 
+    -- where the bound ties and the beginning comes after that of the best known tour, no continuation is better
     pub cut_tie : cost c known ≤ path_cost c p + out (last_of p) + left → slice_cmp nat_cmp p (take (length p) known) ≡ Greater →
         (tour : List ℕ) → IsTour n tour → Continues p tour → IsAsGood c known tour
     cut_tie equals greater tour of on =
@@ -246,9 +260,11 @@ unfolding sum_below
 below-one-each zero = refl
 below-one-each (suc n) = omega (arith, below-one-each n)
 
+-- a beginning has at most as many cities as there are
 pub short : (n : ℕ) (p : List ℕ) → IsBeginning n p → length p ≤ n
 short n p is = omega (arith, sum-within n (λ x. 1) p is.once is.cities, length-ones p, below-one-each n)
 
+-- the last city of a beginning is one of the cities
 pub last_below : (n : ℕ) (p : List ℕ) → IsBeginning n p → last_of p < n
 last_below n p is = let long = is.long in All-get_or (λ x. x < n) p (length p - 1) 0 (omega arith) is.cities
 

@@ -137,6 +137,7 @@ none_past n k (x ∷ t) within past =
     let first : x < n = All-head (λ y. y < n) x t within in
     times-other x k t (λ e. omega arith) ∙ none_past n k t (All-tail (λ y. y < n) x t within) past
 
+-- each tour is in the list
 pub tours_has : (n : ℕ) (t : List ℕ) → 1 ≤ n → IsTour n t → Contains (all_tours n) t
 tours_has n [] some is = absurd (let e = is.begins in cc)
 tours_has n (x ∷ t) some is =
@@ -181,6 +182,7 @@ counted_tour n t begins once none = record {
     eq_itself : (x : ℕ) → (x == x) ≡ true
     eq_itself x = eq-eqb x x refl
 
+-- each list in the list is a tour
 pub tours_only : (n : ℕ) (t : List ℕ) → 1 ≤ n → Contains (all_tours n) t → IsTour n t
 tours_only n t some there =
     let f = map_from (λ u. 0 ∷ u) (orders (n - 1) (range_with_len 1 (n - 1))) t there in
@@ -198,6 +200,7 @@ tours_only n t some there =
         let s = same k in
         omega (arith, s, times-other 0 k u (λ e. omega arith), range_above 1 (n - 1) k (omega arith))
 
+-- the cities in order are a tour
 pub range_tour : (n : ℕ) → 1 ≤ n → IsTour n (range_with_len 0 n)
 range_tour zero some = absurd (omega arith)
 range_tour (suc n) some =
@@ -206,11 +209,13 @@ range_tour (suc n) some =
 
 -- The best.
 
+-- the best of a first tour and a list: it is one of them, and as good as each
 pub record IsBest (c : Costs) (t : List ℕ) (ts : List (List ℕ)) (b : List ℕ) : Type 0 where
   pub one_of : (b ≡ t) ⊎ Contains ts b
   pub good : IsAsGood c b t
   pub each : All (IsAsGood c b) ts
 
+-- the best that is picked is as good as the first and as each of the list
 pub best_is : (c : Costs) (t : List ℕ) (ts : List (List ℕ)) → IsBest c t ts (best c t ts)
 unfolding best
 best_is c t [] = record { one_of = inl refl; good = good_itself c t; each = λ k d below. absurd (omega arith) }
@@ -285,12 +290,14 @@ continues_begins a b t on =
     ap (begins_with a b) on.1 ∙ both_of (a == a) (b == b) (eq-eqb a a refl) (eq-eqb b b refl)
 
 module _ (n : ℕ) (c : Costs) (first : List ℕ) (a b : ℕ) (some : 1 ≤ n) where
+  -- the best of a pair is as good as each tour that begins with it
   pub pair_good : (t : List ℕ) → IsTour n t → Continues (0 ∷ a ∷ b ∷ []) t → IsAsGood c (pair_best n c first a b) t
   pair_good t is on =
       let x = best_is c first (filter (begins_with a b) (all_tours n)) in
       All-contains (IsAsGood c (pair_best n c first a b)) (filter (begins_with a b) (all_tours n)) t x.each
       (Contains-kept (begins_with a b) (all_tours n) t (tours_has n t some is) (continues_begins a b t on))
 
+  -- the best of a pair is a tour
   pub pair_tour : IsTour n first → IsTour n (pair_best n c first a b)
   pair_tour is =
       let x = best_is c first (filter (begins_with a b) (all_tours n)) in

@@ -9,9 +9,9 @@ ghost use Rattle.tour_law.specs.Beginnings.{Continues};
 ghost use Rattle.tour_law.specs.Search.{IsAsGood, IsWayOut, bound, least};
 ghost use Rattle.tour_law.specs.Tours.{Costs, IsLeast, IsTour, cost};
 
-/// The best of all orders of the cities is a least tour (`least`), and there is one least tour (`one`). A tour that is as good as each is
-/// least (`good`). The bound of a beginning exceeds the cost of no tour that begins so (`bounded`), so a tour that costs less than the
-/// bound is as good as each such tour (`cut`).
+/// The best of all orders of the cities is a least tour (`least`), and there is one least tour (`one`). A tour that
+/// is as good as each is least (`good`). The bound of a beginning is at most the cost of each tour that begins so
+/// (`bounded`). So a tour that costs less than the bound is as good as each such tour (`cut`).
 pub fn tour_laws()
     ensures least { (n : ℕ) (c : Costs) → 1 ≤ n → IsLeast n c (least n c) }
     ensures one { (n : ℕ) (c : Costs) (a b : List ℕ) → IsLeast n c a → IsLeast n c b → a ≡ b }

@@ -21,6 +21,7 @@ use Rattle.tour_search.proofs.Written.{number_low}
 
 -- One row.
 
+-- what was read, and what is read after it
 abbrev pub behind : List ℕ → Option (List ℕ) → Option (List ℕ)
 behind done None = None
 behind done (Some xs) = Some (done ++ xs)
@@ -39,6 +40,7 @@ pub record RowSoFar (n : ℕ) (words : List (List ℕ)) (first : List ℕ) (i : 
   pub now_is : now ≡ first ++ done
   pub same : row_in n words ≡ behind done (row_in (n - i) left)
 
+-- before its first word nothing of a row is read
 pub row_start : (n : ℕ) (words : List (List ℕ)) (first : List ℕ) → RowSoFar n words first 0 words first
 row_start n words first = record {
   done = [];
@@ -54,6 +56,7 @@ next_word n i left rest word within e =
     let count : n - i ≡ suc (n - (i + 1)) = omega arith in
     ap (λ k. row_in k left) count ∙ ap (row_in (suc (n - (i + 1)))) e
 
+-- one word of a row more is read
 pub row_more : (n : ℕ) (words : List (List ℕ)) (first : List ℕ) (i : ℕ) (left rest : List (List ℕ)) (now new word : List ℕ) (x : ℕ) →
     RowSoFar n words first i left now → i < n → left ≡ word ∷ rest → number_to 1000000 word ≡ Some x → new ≡ now ++ x ∷ [] →
     RowSoFar n words first (i + 1) rest new
@@ -64,12 +67,14 @@ row_more n words first i left rest now new word x far within e is more = record 
       ∙ ap (λ o. behind far.done (before o (row_in (n - (i + 1)) rest))) is ∙ behind_more far.done x (row_in (n - (i + 1)) rest);
 }
 
+-- a word that is no number makes its row bad
 pub row_bad : (n : ℕ) (words : List (List ℕ)) (first : List ℕ) (i : ℕ) (left rest : List (List ℕ)) (now word : List ℕ) →
     RowSoFar n words first i left now → i < n → left ≡ word ∷ rest → number_to 1000000 word ≡ None → row_in n words ≡ None
 row_bad n words first i left rest now word far within e is =
     far.same ∙ ap (behind far.done) (next_word n i left rest word within e)
     ∙ ap (λ o. behind far.done (before o (row_in (n - (i + 1)) rest))) is
 
+-- a row with too few words is bad
 pub row_short : (n : ℕ) (words : List (List ℕ)) (first : List ℕ) (i : ℕ) (left : List (List ℕ)) (now : List ℕ) →
     RowSoFar n words first i left now → i < n → left ≡ [] → row_in n words ≡ None
 unfolding row_in
@@ -77,6 +82,7 @@ row_short n words first i left now far within e =
     let count : n - i ≡ suc (n - (i + 1)) = omega arith in
     far.same ∙ ap (λ k. behind far.done (row_in k left)) count ∙ ap (λ l. behind far.done (row_in (suc (n - (i + 1))) l)) e
 
+-- a row with too many words is bad
 pub row_over : (n : ℕ) (words : List (List ℕ)) (first : List ℕ) (i : ℕ) (left rest : List (List ℕ)) (now word : List ℕ) →
     RowSoFar n words first i left now → n ≤ i → left ≡ word ∷ rest → row_in n words ≡ None
 unfolding row_in
@@ -99,6 +105,7 @@ pub record AreLow (n : ℕ) (costs : List ℕ) : Type 0 where
   pub long : length costs ≡ n
   pub low : All (λ x. x ≤ 1000000) costs
 
+-- the ways of a row are within their limit
 pub row_low : (n : ℕ) (words : List (List ℕ)) (row : List ℕ) → row_in n words ≡ Some row → AreLow n row
 unfolding row_in
 row_low zero [] row e = let is : [] ≡ row = cc in subst (AreLow 0) is (record { long = refl; low = All-nil (λ x. x ≤ 1000000) })
@@ -132,6 +139,7 @@ onto_more done row number (Err fault) = refl
 pub record RowsSoFar (n : ℕ) (all : List (List ℕ)) (i : ℕ) (left : List (List ℕ)) (now : List ℕ) : Type 0 where
   pub same : rows_in n n 2 all ≡ onto now (rows_in n (n - i) (2 + i) left)
 
+-- before the first line no row is read
 pub rows_start : (n : ℕ) (all : List (List ℕ)) → RowsSoFar n all 0 all []
 rows_start n all = record {
   same = onto_none (rows_in n n 2 all) ∙ ap (λ k. onto [] (rows_in n k 2 all)) (let e : n ≡ n - 0 = omega arith in e);
@@ -153,6 +161,7 @@ by_line n left number line rest fault false h e = at (row_of n line) e
     at None f = f
     at (Some row) f = absurd (cc)
 
+-- a line that is refused is refused in the whole text
 pub rows_fault : (n : ℕ) (all : List (List ℕ)) (i : ℕ) (left rest : List (List ℕ)) (now : List ℕ) (o : Option (Bor (List ℕ))) (number : ℕ)
     (fault : ℕ × CitiesWhy) → RowsSoFar n all i left now → i < n → number ≡ 2 + i → IsNextOf o left rest → row_read n number o ≡ Err fault →
     rows_in n n 2 all ≡ Err fault
@@ -180,6 +189,7 @@ good_line n left number line row rest false h e = at (row_of n line) e
     at None f = absurd (cc)
     at (Some r) f = let same : r ≡ row = cc in ap (λ x. with_row number (Some x) (rows_in n left (number + 1) rest)) same
 
+-- one row more is read
 pub rows_more : (n : ℕ) (all : List (List ℕ)) (i : ℕ) (left rest : List (List ℕ)) (now new row : List ℕ) (o : Option (Bor (List ℕ)))
     (number : ℕ) → RowsSoFar n all i left now → i < n → number ≡ 2 + i → IsNextOf o left rest → row_read n number o ≡ Ok row →
     new ≡ now ++ row → RowsSoFar n all (i + 1) rest new
@@ -198,6 +208,7 @@ rows_more n all i left rest now new row (Some line) number far within at is good
           ∙ ap (λ l. onto l (rows_in n (n - (i + 1)) (2 + (i + 1)) rest)) (sym more);
     }
 
+-- after the last row, with no line left, all are read
 pub rows_whole : (n : ℕ) (all : List (List ℕ)) (i : ℕ) (left : List (List ℕ)) (now : List ℕ) → RowsSoFar n all i left now → n ≤ i →
     left ≡ [] → rows_in n n 2 all ≡ Ok now
 unfolding rows_in
@@ -206,6 +217,7 @@ rows_whole n all i left now far past e =
     far.same ∙ ap (λ k. onto now (rows_in n k (2 + i) left)) count ∙ ap (λ l. onto now (rows_in n 0 (2 + i) l)) e
     ∙ ap Ok (append-nil now)
 
+-- a line after the last row is refused
 pub rows_over : (n : ℕ) (all : List (List ℕ)) (i : ℕ) (left rest : List (List ℕ)) (now line : List ℕ) (number : ℕ) (reason : CitiesWhy) →
     RowsSoFar n all i left now → n ≤ i → number ≡ 2 + i → left ≡ line ∷ rest → cond (is_long line) why.Long why.Extra ≡ reason →
     rows_in n n 2 all ≡ Err (number, reason)
@@ -244,12 +256,14 @@ rows_low n (suc left) number (line ∷ lines) rows e =
 
 -- The cities.
 
+-- rows that are read make cities
 pub are_cities : (n : ℕ) (lines : List (List ℕ)) (rows : List ℕ) → 1 ≤ n → n ≤ 12 → rows_in n n 2 lines ≡ Ok rows →
     AreCities (record { count = n; rows = rows })
 are_cities n lines rows some few e =
     let are = rows_low n n 2 lines rows e in
     record { some = some; few = few; long = are.long; low = are.low }
 
+-- a number of cities that is read is from 1 to 12
 pub count_low : (words : List (List ℕ)) (n : ℕ) → count_in words ≡ Some n → (1 ≤ n) × (n ≤ 12)
 unfolding count_in
 count_low [] n e = absurd (cc)
@@ -268,14 +282,17 @@ count_low (name ∷ number ∷ more ∷ rest) n e = absurd (cc)
 
 -- The words of the first line, by what is left of them.
 
+-- without a word there is no number of cities
 pub count_none : (all : List (List ℕ)) → all ≡ [] → count_in all ≡ None
 unfolding count_in
 count_none all e = ap count_in e
 
+-- a single word is no number of cities
 pub count_one : (all left : List (List ℕ)) (name : List ℕ) → all ≡ name ∷ left → left ≡ [] → count_in all ≡ None
 unfolding count_in
 count_one all left name e f = ap count_in e ∙ ap (λ l. count_in (name ∷ l)) f
 
+-- two words are read as the name and the number
 pub count_two : (all left rest : List (List ℕ)) (name number : List ℕ) → all ≡ name ∷ left → left ≡ number ∷ rest → rest ≡ [] →
     count_in all ≡ named_in name number
 unfolding count_in
@@ -287,6 +304,7 @@ unfolding count_in
 count_many [] name number more = absurd (more refl)
 count_many (word ∷ rest) name number more = refl
 
+-- more than two words are no number of cities
 pub count_more : (all left rest : List (List ℕ)) (name number : List ℕ) → all ≡ name ∷ left → left ≡ number ∷ rest → (rest ≡ [] → ⊥) →
     count_in all ≡ None
 count_more all left rest name number e f more =
@@ -302,6 +320,7 @@ row_ends false n words first i (word ∷ rest) now far past done more = row_over
 
 -- The whole input.
 
+-- a refusal at a line is that of the text
 pub refused_as : {X : Type 0} (read : Read X) (fault : CitiesFault) → RefusedBy {Y = X} read (Err fault) → (line : ℕ) (reason : CitiesWhy) →
     fault ≡ Refused line reason → read ≡ Err (line, reason)
 refused_as read (Refused l w) is line reason e =
@@ -317,6 +336,7 @@ head_line lines line true o fault e = let f : (1, why.Long) ≡ fault = cc in ap
 head_line lines line false None fault e = let f : (1, why.Cities) ≡ fault = cc in ap Err f
 head_line lines line false (Some n) fault e = absurd (cc)
 
+-- a first line that is refused is refused in the whole text
 pub head_refused : (all rest : List (List ℕ)) (o : Option (Bor (List ℕ))) (fault : ℕ × CitiesWhy) → IsNextOf o all rest →
     head_read o ≡ Err fault → cities_in all ≡ Err fault
 unfolding cities_in
@@ -331,6 +351,7 @@ head_good lines line true o n e = absurd (cc)
 head_good lines line false None n e = absurd (cc)
 head_good lines line false (Some m) n e = let f : m ≡ n = cc in ap (λ k. with_rows k (rows_in k k 2 lines)) f
 
+-- a first line with a number of cities is followed by their rows
 pub head_is : (all rest : List (List ℕ)) (o : Option (Bor (List ℕ))) (n : ℕ) → IsNextOf o all rest → head_read o ≡ Ok n →
     cities_in all ≡ with_rows n (rows_in n n 2 rest)
 unfolding cities_in
@@ -343,6 +364,7 @@ low_by true o n e = absurd (cc)
 low_by false None n e = absurd (cc)
 low_by false (Some m) n e = let f : m ≡ n = cc in ap Some f
 
+-- a first line that is read gives 1 to 12 cities
 pub head_low : (o : Option (Bor (List ℕ))) (n : ℕ) → head_read o ≡ Ok n → (1 ≤ n) × (n ≤ 12)
 head_low None n e = absurd (cc)
 head_low (Some line) n e = count_low (words line.now) n (low_by (is_long line.now) (count_of line.now) n e)

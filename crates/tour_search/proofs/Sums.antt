@@ -22,6 +22,7 @@ pub record AreWays (cities : CitiesModel) (ways : List ℕ) (city : ℕ) : Type 
   pub each : (k to : ℕ) → k < city → to < cities.count → (k ≡ to → ⊥) → out_of ways k ≤ costs cities k to
   pub low : All (λ x. x ≤ 1000000) ways
 
+-- before the first city there is no way out
 pub no_ways : (cities : CitiesModel) (ways : List ℕ) → ways ≡ [] → AreWays cities ways 0
 no_ways cities ways e = subst (λ w. AreWays cities w 0) (sym e) (record {
   long = refl;
@@ -29,6 +30,7 @@ no_ways cities ways e = subst (λ w. AreWays cities w 0) (sym e) (record {
   low = All-nil (λ x. x ≤ 1000000);
 })
 
+-- the least way out of one city more
 pub one_way : (cities : CitiesModel) (ways new : List ℕ) (city x : ℕ) → AreWays cities ways city → new ≡ ways ++ x ∷ [] →
     ((to : ℕ) → to < cities.count → (city ≡ to → ⊥) → x ≤ costs cities city to) → x ≤ 1000000 → AreWays cities new (city + 1)
 one_way cities ways new city x are e cheap low = subst (λ w. AreWays cities w (city + 1)) (sym e) (record {
@@ -52,6 +54,7 @@ pub below_more : (n : ℕ) (f : ℕ → ℕ) → sum_below (n + 1) f ≡ sum_bel
 unfolding sum_below
 below_more n f = let e : n + 1 ≡ suc n = omega arith in ap (λ k. sum_below k f) e
 
+-- a sum over nothing is 0
 pub none_below : (f : ℕ → ℕ) → sum_below 0 f ≡ 0
 unfolding sum_below
 none_below f = refl
@@ -64,6 +67,7 @@ path_step c x [] i below = absurd (omega arith)
 path_step c x (y ∷ q) zero below = omega arith
 path_step c x (y ∷ q) (suc i) below = let step = path_step c y q i (omega arith) in omega (arith, step)
 
+-- a path with one city more costs one way more
 pub path_more : (c : Costs) (p : List ℕ) (i : ℕ) → 1 ≤ i → i < length p →
     path_cost c (take (i + 1) p) ≡ path_cost c (take i p) + c (get_or p (i - 1) 0) (get_or p i 0)
 path_more c [] i some below = absurd (omega arith)
@@ -74,6 +78,7 @@ path_more c (x ∷ q) (suc i) some below =
     let f : suc i - 1 ≡ i = omega arith in
     ap (λ k. path_cost c (take k (x ∷ q))) e ∙ step ∙ ap (λ k. path c x (take i q) + c (get_or (x ∷ q) k 0) (get_or q i 0)) (sym f)
 
+-- a path of one city costs nothing
 pub path_one : (c : Costs) (p : List ℕ) → 1 ≤ length p → path_cost c (take 1 p) ≡ 0
 path_one c [] some = absurd (omega arith)
 path_one c (x ∷ q) some = refl

@@ -46,6 +46,7 @@ pub record GoesTo (n : ℕ) (tour : List ℕ) : Type 0 where
   pub below : a < n
   pub on : Continues (0 ∷ a ∷ []) tour
 
+-- a tour of two cities or more goes from city 0 to another
 pub goes_to : (n : ℕ) (tour : List ℕ) → 2 ≤ n → IsTour n tour → GoesTo n tour
 goes_to n [] many is = absurd (let l = tour-long n [] is in omega (arith, l))
 goes_to n (x ∷ []) many is = absurd (let l = tour-long n (x ∷ []) is in omega (arith, l))
@@ -73,9 +74,11 @@ goes_to n (x ∷ a ∷ rest) many is =
 pub record IsTried (n : ℕ) (c : Costs) (best : List ℕ) (city : ℕ) : Type 0 where
   pub tried : (a : ℕ) → 1 ≤ a → a < city → (tour : List ℕ) → IsTour n tour → Continues (0 ∷ a ∷ []) tour → IsAsGood c best tour
 
+-- before city 1 nothing is tried
 pub none_tried : (n : ℕ) (c : Costs) (best : List ℕ) → IsTried n c best 1
 none_tried n c best = record { tried = λ a some below. absurd (omega arith) }
 
+-- one second city more is tried
 pub one_tried : (n : ℕ) (c : Costs) (before best : List ℕ) (city : ℕ) → IsTried n c before city → IsAsGood c best before →
     ((tour : List ℕ) → IsTour n tour → Continues (0 ∷ city ∷ []) tour → IsAsGood c best tour) → IsTried n c best (city + 1)
 one_tried n c before best city is good new = record {
@@ -91,6 +94,7 @@ only_one [] is = absurd (let l = tour-long 1 [] is in omega (arith, l))
 only_one (x ∷ []) is = let e : x ≡ 0 = let b = is.begins in cc in ap (λ k. k ∷ []) e
 only_one (x ∷ y ∷ rest) is = absurd (let l = tour-long 1 (x ∷ y ∷ rest) is in omega (arith, l))
 
+-- if all second cities are tried, the best is a least tour
 pub all_tried_least : (n : ℕ) (c : Costs) (best : List ℕ) (city : ℕ) → 1 ≤ n → n ≤ city → IsTour n best → IsTried n c best city →
     IsLeast n c best
 all_tried_least zero c best city some past is tried = absurd (omega arith)
@@ -107,6 +111,7 @@ first_stays [] ys e f is = absurd (cc)
 first_stays (x ∷ xs) [] e f is = absurd (omega arith)
 first_stays (x ∷ xs) (y ∷ ys) e f is = let z : x ≡ 0 = cc in ap Some (f ∙ z)
 
+-- a reordering of a tour that begins alike is a tour
 pub moved_tour : (n : ℕ) (xs ys : List ℕ) → IsTour n xs → IsPermutation xs ys → length ys ≡ length xs → get_or ys 0 0 ≡ get_or xs 0 0 →
     IsTour n ys
 moved_tour n xs ys is same long first = record {

@@ -39,7 +39,7 @@ last_is p len last long e is =
     let below : len - 1 < length p = omega arith in
     is ∙ get_or_default p (len - 1) last 0 below ∙ ap (λ k. get_or p (k - 1) 0) e
 
--- what is told of the bound, by the last city
+-- what is said of the bound, by the last city
 pub bound_told : (n : ℕ) (c : Costs) (ways p seen : List ℕ) (spent left told : ℕ) → length ways ≡ n → seen ≡ p → IsBeginning n p →
     spent ≡ path_cost c p → left + sum_by (out_of ways) p ≡ sum_below n (out_of ways) →
     ((k : Costs) (a : ℕ) (q : List ℕ) → seen ≡ 0 ∷ a ∷ q → spent ≡ path_cost k seen →
@@ -71,6 +71,7 @@ cut_of bound best o e = at (nat_lt best bound) (bound == best) (is_gt o) refl re
     at false true false h i j e = absurd (cc)
     at false false f h i j e = absurd (cc)
 
+-- a beginning that is cut has no better tour
 pub cut_searches : (n : ℕ) (c : Costs) (ways p known : List ℕ) (best bound left : ℕ) → 0 < n → IsWayOut n c (out_of ways)
     → IsBeginning n p →
     left + sum_by (out_of ways) p ≡ sum_below n (out_of ways) → best ≡ cost c known →
@@ -91,6 +92,7 @@ pub record IsKept (cities : CitiesModel) (tour : List ℕ) (known best : Tour) :
   pub old : IsAsGood (costs cities) best.cities.items known.cities.items
   pub from : (best.cities.items ≡ known.cities.items) ⊎ (best.cities.items ≡ tour)
 
+-- the better of a tour and the one known is kept
 pub kept_better : (cities : CitiesModel) (t : ℕ) (tour : List ℕ) (known best : Tour) → IsKnown cities known → IsTour cities.count tour →
     t ≡ cost (costs cities) tour →
     (beats t tour known.cost known.cities.items ≡ true → (best.cost ≡ t) × (best.cities.items ≡ tour)) →
@@ -125,7 +127,7 @@ kept_better cities t tour known best is of its taken stays = at (beats t tour kn
 
 -- One city more.
 
--- a city that stands there already: no tour goes on with it
+-- a city that is there already: no tour goes on with it
 pub none_again : (n : ℕ) (p tour : List ℕ) (x : ℕ) → 1 ≤ times x p → IsTour n tour → Continues (p ++ x ∷ []) tour → ⊥
 none_again n p tour x there of on =
     let once = tour-once n tour of x in
@@ -133,6 +135,7 @@ none_again n p tour x there of on =
     let f : times x (p ++ x ∷ []) ≡ times x p + times x (x ∷ []) = sum_by-append _ p (x ∷ []) in
     omega (arith, once, e, f, times-same x [], there)
 
+-- if each next city is tried, so is each tour that continues
 pub all_tried : (cities : CitiesModel) (p : List ℕ) (best : List ℕ) → length p < cities.count →
     ((x : ℕ) → x < cities.count → (tour : List ℕ) → IsTour cities.count tour → Continues (p ++ x ∷ []) tour
     → IsAsGood (costs cities) best tour) →
@@ -141,12 +144,15 @@ all_tried cities p best less tried tour of on =
     let x = next cities.count p tour less of on in
     tried x.x x.below tour of x.on
 
+-- a city that the test does not find is new
 pub new_at : (p now seen : List ℕ) (x : ℕ) (b : Bool) → seen ≡ now → now ≡ p → (b ≡ false → times x seen ≡ 0) → b ≡ false → times x p ≡ 0
 new_at p now seen x b e f h is = ap (times x) (sym f) ∙ ap (times x) (sym e) ∙ h is
 
+-- a city that the test finds was visited
 pub old_at : (p now seen : List ℕ) (x : ℕ) (b : Bool) → seen ≡ now → now ≡ p → (b ≡ true → 1 ≤ times x seen) → b ≡ true → 1 ≤ times x p
 old_at p now seen x b e f h is = let g : times x seen ≡ times x p = ap (times x) e ∙ ap (times x) f in let k = h is in omega (arith, g, k)
 
+-- what is left to pay is at least the way out of a city that is left
 pub left_at : (n : ℕ) (ways p : List ℕ) (x left : ℕ) → IsBeginning n p → x < n → times x p ≡ 0 →
     left + sum_by (out_of ways) p ≡ sum_below n (out_of ways) → out_of ways x ≤ left
 left_at n ways p x left is below new rest = left_enough n (out_of ways) p x left is below new rest
@@ -157,6 +163,7 @@ pub record IsNext (cities : CitiesModel) (ways more : List ℕ) (cost rest : ℕ
   pub spent : cost ≡ path_cost (costs cities) more
   pub left : rest + sum_by (out_of ways) more ≡ sum_below cities.count (out_of ways)
 
+-- the next beginning costs one way more, and leaves one way out less
 pub is_next : (cities : CitiesModel) (ways p now : List ℕ) (x spent left step : ℕ) → IsBeginning cities.count p → x < cities.count
     → times x p ≡ 0 →
     now ≡ p ++ x ∷ [] → spent ≡ path_cost (costs cities) p → left + sum_by (out_of ways) p ≡ sum_below cities.count (out_of ways) →
@@ -170,7 +177,7 @@ is_next cities ways p now x spent left step is below new e its_spent its_left it
     } in
     subst (λ l. IsNext cities ways l (spent + step) (left - out_of ways x)) (sym e) n
 
--- whether a city stands in a list
+-- whether a city is in a list
 pub any_times : (x : ℕ) (p : List ℕ) (b : Bool) → b ≡ list_any (λ y. eqb y x) p → b ≡ false → times x p ≡ 0
 any_times x [] b e is = refl
 any_times x (y ∷ p) b e is = elim (cases_eq y x) [

@@ -9,6 +9,7 @@ use Rattle.std.proofs.lemmas.Slice.Eq.{bytes_eq-Decides}
 use Rattle.std.proofs.lemmas.Str.{IsUtf8-from_ascii}
 use Rattle.tour_search.specs.Numbers.{number_to}
 
+-- a number below 2^32 is written as text
 pub is_text : (w : List ℕ) (n : ℕ) → n < 2 ^ 32 → w ≡ decimal n → IsUtf8 w
 is_text w n lt e = subst IsUtf8 (sym e) (IsUtf8-from_ascii (decimal n) (IsAscii-decimal n (omega arith)))
 
@@ -24,6 +25,7 @@ none_if : (b : Bool) (n : ℕ) → (b ≡ true → ⊥) → cond b (Some n) None
 none_if true n never = absurd (never refl)
 none_if false n never = refl
 
+-- what is not written as a number within the limit cannot be read as one
 pub no_number : (most : ℕ) (w : List ℕ) → ((n : ℕ) → n ≤ most → w ≡ decimal n → ⊥) → number_to most w ≡ None
 unfolding number_to
 no_number most w none =

@@ -5,20 +5,23 @@ use Rattle.std.specs.Ordering.{nat_cmp, is_gt, is_lt}
 use Rattle.tour_law.specs.Tours.{Costs, IsTour, cost, costs_of}
 use Rattle.tour_search.specs.declared.tours.Tour.{Tour}
 
+-- what contracts see of cities
 pub record CitiesModel : Type 0 where
   pub count : ℕ
   pub rows : List ℕ
 
+-- there are 1 to 12 cities, with a cost of at most 1,000,000 from each to each
 pub record AreCities (cities : CitiesModel) : Type 0 where
   pub some : 1 ≤ cities.count
   pub few : cities.count ≤ 12
   pub long : length cities.rows ≡ cities.count * cities.count
   pub low : All (λ x. x ≤ 1000000) cities.rows
 
+-- the cost from each city to each
 abbrev pub costs : CitiesModel → Costs
 costs cities = costs_of cities.count cities.rows
 
--- the number that stands at a city
+-- the number that is at a city
 abbrev pub out_of : List ℕ → ℕ → ℕ
 out_of ways city = slice_index ways city
 

@@ -7,6 +7,7 @@ use Rattle.std.specs.Str.Lines.{strip_carriage_return}
 abbrev pub line_limit : ℕ
 line_limit = 2 ^ 20
 
+-- the line is longer than a line may be
 abbrev pub is_long : List ℕ → Bool
 is_long line = nat_lt line_limit (length line)
 
@@ -16,7 +17,7 @@ without_end [] = []
 without_end ([] ∷ []) = []
 without_end (piece ∷ pieces) = piece ∷ without_end pieces
 
--- the lines, each without the one carriage return at its end, if it has one: a line feed ends a line, and what follows the last line
--- feed is a line too, unless nothing does
+-- The lines, each without the one carriage return at its end, if it has one. A line feed ends a line; what follows the last line feed is a
+-- line too, unless nothing does.
 abbrev pub lines : List ℕ → List (List ℕ)
 lines bytes = map strip_carriage_return (without_end (slice_split (λ byte. byte == 10) bytes))

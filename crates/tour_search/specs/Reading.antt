@@ -21,10 +21,12 @@ if_some _ = None
 abbrev pub named_in : List ℕ → List ℕ → Option ℕ
 named_in name number = if bytes_eq name (codes "cities") then if_some (number_to 12 number) else None
 
+-- the number of cities of the words of the first line
 unfoldable pub count_in : List (List ℕ) → Option ℕ
 count_in (name ∷ number ∷ []) = named_in name number
 count_in _ = None
 
+-- the number of cities of the first line
 abbrev pub count_of : List ℕ → Option ℕ
 count_of line = count_in (words line)
 
@@ -33,6 +35,7 @@ abbrev pub before : Option ℕ → Option (List ℕ) → Option (List ℕ)
 before (Some x) (Some xs) = Some (x ∷ xs)
 before _ _ = None
 
+-- the n costs of the words of a line
 unfoldable pub row_in : ℕ → List (List ℕ) → Option (List ℕ)
 row_in zero [] = Some []
 row_in zero (word ∷ rest) = None
@@ -47,6 +50,7 @@ row_of n line = row_in n (words line)
 abbrev pub Read : Type 0 → Type 0
 Read X = Result X (ℕ × CitiesWhy)
 
+-- the line is refused for this reason
 abbrev pub refused : {X : Type 0} → ℕ → CitiesWhy → Read X
 refused number reason = Err (number, reason)
 
@@ -69,6 +73,7 @@ abbrev pub with_rows : ℕ → Read (List ℕ) → Read CitiesModel
 with_rows n (Ok rows) = Ok (record { count = n; rows = rows })
 with_rows n (Err fault) = Err fault
 
+-- the cities of the number of cities and the lines after it
 abbrev pub with_count : Option ℕ → List (List ℕ) → Read CitiesModel
 with_count None lines = refused 1 why.Cities
 with_count (Some n) lines = with_rows n (rows_in n n 2 lines)

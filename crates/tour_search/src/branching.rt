@@ -75,7 +75,7 @@ fn bound_of(ways_out: &[u64], beginning: &[u8], spent: u64, left: u64) -> u64
     spent + ways_out[last as usize] + left
 }
 
-// The city stands in the beginning.
+// The city is in the beginning.
 fn is_visited(beginning: &[u8], city: u8) -> bool
     ensures yes { result ≡ true → 1 ≤ count_by (λ x. x == city) beginning.now }
     ensures no { result ≡ false → count_by (λ x. x == city) beginning.now ≡ 0 }

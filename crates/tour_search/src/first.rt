@@ -14,8 +14,8 @@ use std::alloc::Global;
 /// The fewest cities whose tours are shared.
 const SHARED: u8 = 4;
 
-/// A tour of these cities: of fewer than four a least tour; of more the one that always goes to the cheapest city not yet visited, the
-/// lowest number on a tie. Its only error is `NoMemory`.
+/// A tour of these cities. Of fewer than four it is a least tour. Of more it always goes to the cheapest city not yet
+/// visited, the lowest number on a tie. Its only error is `NoMemory`.
 pub fn first_tour(alloc: Global, cities: &Cities) -> Result<Tour, NoMemory>
     ensures known { IfOk result (IsKnown cities.now) }
     ensures least { IfOk result (λ t. cities.now.count < 4 → IsLeast cities.now.count (costs cities.now) t.cities.items) }

@@ -1,7 +1,8 @@
 //! Cities: how they are read, a first tour through them, and the search for the best tours that begin in a given way.
 //!
-//! `specs/Reading.antt` says which cities an input has, or which of its lines is refused first. `read_cities` reads them, `first_tour` makes
-//! a tour through them, and `search_from` improves one by branch and bound. It stands on the definitions of `tour_law`.
+//! `specs/Reading.antt` says which cities an input has, or which of its lines is refused first. `read_cities` reads
+//! them, `first_tour` makes a tour through them, and `search_from` improves one by branch and bound. It stands on the
+//! definitions of `tour_law`.
 #![tactic(auto)]
 
 mod branching;

@@ -53,7 +53,7 @@ impl<'a> Pieces<'a> {
     }
 }
 
-// What stands before the first of these bytes, and what follows it, if there is one.
+// What comes before the first of these bytes, and what follows it, if there is one.
 fn cut(bytes: &[u8], at: u8) -> Option<(&[u8], &[u8])>
     ensures { CutsAt (λ byte. byte == at) bytes.now result }
 {

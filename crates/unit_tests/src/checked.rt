@@ -118,8 +118,8 @@ fn an_input_has_at_most_two_to_the_26_bytes(rt: HostRuntime) -> Result<(), Fail>
     Ok(())
 }
 
-/// The calls that fail, and what is answered and written. 111 bytes are read in pieces of 50, and the fourth read finds the end; 8
-/// bytes go in two writes of 4, and the third call is the flush.
+/// The calls that fail, and what is answered and written. Three reads give 111 bytes in pieces of 50, and the fourth
+/// finds the end. 8 bytes go in two writes of 4, and the third call is the flush.
 const FAULTS: &[((u64, u64), Told, &str)] = &[
     ((0, 0), Ok(Verdict::Legal { entries: 5 }), "legal 5\n"),
     ((1, 0), Err(CheckFault::Read), ""),

@@ -4,9 +4,9 @@ use command_words::{Command, RunOptions, RunWords, Sizes, WordsFault, read_words
 use std::alloc::Global;
 use std::test::Fail;
 
-/// Each list of words, with blanks between, and what it says: the command, N and SEED, then ranks, servers, limit, budget,
-/// grain and inline, then whether progress is told, then stats and ledger. `tour` and `flow` have no budget, grain or inline. It says
-/// nothing if it is refused.
+/// Each list of words, with blanks between, and what it says. First come the command, N and SEED, then ranks,
+/// servers, limit, budget, grain and inline, then progress, stats and ledger. `tour` and `flow` have no budget, grain or
+/// inline. It says nothing if it is refused.
 const ROWS: &[(&str, &str)] = &[
     (
         "solve",

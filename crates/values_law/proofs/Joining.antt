@@ -70,6 +70,7 @@ module _ (config : Config) (ledger : List Entry) (flow : List Definition) (outco
     over = r.follows.over;
   }
 
+  -- the run as the law of flows has it
   abbrev pub flow_run : IsFlowRun (forms config.ranks) config ledger flow
   flow_run rank below = rank_is rank (run.each rank below)
 
@@ -81,9 +82,11 @@ module _ (config : Config) (ledger : List Entry) (flow : List Definition) (outco
       conserves : IsBalanced config ledger last
       conserves = balanced config ledger last some legal orderly
 
+      -- at the end of a run over flows each unit is spent
       pub all_spent : All (λ u. u.place ≡ Spent) last.units
       all_spent = conserves.spent
 
+      -- at the end of a run over flows each part is closed and freed
       pub all_freed : All (λ p. (p.closed ≡ true) × (p.freed ≡ true)) last.parts
       all_freed = conserves.freed
 

@@ -26,11 +26,12 @@ ghost use Rattle.values_law.specs.Joined.{IsFlowsRun};
 
 use flow_entry_law::entry_laws;
 
-/// The joining of ledger and programs, for every configuration. In a legal run in which each rank ran its flow program and then finished:
-/// what the ranks bring are the values of their rules (`values`); the ledger enters each rule once at most, by rank 0, with the values of
-/// its inputs (`entered`), each of which was known to rank 0 in its calls before (`known`); and it enters each rule that has a value, if
-/// no put of an answer was rejected on another rank (`complete`). Each accepted unit was fetched, so no unit is left (`spent`), and each
-/// common part was freed (`freed`).
+/// The joining of ledger and programs, for every configuration. Of a legal run in which each rank ran its flow
+/// program and then finished. What the ranks bring are the values of their rules (`values`). The ledger enters each
+/// rule once at most, by rank 0, with the values of its inputs (`entered`). Each of these was known to rank 0 in its
+/// calls before (`known`). The ledger enters each rule that has a value, if no put of an answer was rejected on
+/// another rank (`complete`). Each accepted unit was fetched, so no unit is left (`spent`), and each common part was
+/// freed (`freed`).
 pub fn value_laws()
     ensures values { (config : Config) (ledger : List Entry) (last : Bag) (flow : List Definition) (outcomes : List FlowOutcome) →
         0 < config.ranks → IsRun (start config) ledger last → IsFlowsRun config ledger flow outcomes → AreValues flow outcomes }

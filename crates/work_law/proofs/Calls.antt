@@ -69,6 +69,7 @@ pub record IsOn {Made : Type 0} (next : Books Made) : Type 0 where
   pub holds : next.held ≡ None
   pub stays : next.on ≡ None
 
+-- a unit that is brought leaves the program going on
 pub brought_on : {Made : Type 0} (W : Work Made) (common : List ℕ) (o : Option Made) (came : List (Arrival Made))
     → IsOn (brought W common o came)
 brought_on W common None came = record { lives = refl; holds = refl; stays = refl }
@@ -104,6 +105,7 @@ none_left_at W b (s ∷ said) last well goes none =
     (by_kind W (λ b s next. IsEndedWell s.call s.answer → LeavesNone b → LeavesNone next) (none_left_each W) b s goes.0 goes.1
     (All-head (λ (t : Said). IsEndedWell t.call t.answer) s said well) none)
 
+-- a program whose calls all ended well has no task left
 pub none_left : {Made : Type 0} (W : Work Made) (first : List (Task Made)) (said : List Said) (left : List (Task Made))
     (came : List (Arrival Made)) → All (λ (s : Said). IsEndedWell s.call s.answer) said
     → Goes W (going first None []) said (shut left None came) →

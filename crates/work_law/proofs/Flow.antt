@@ -39,11 +39,13 @@ own_behind common body =
     let e : length (common ++ body) - length body ≡ length common = omega (arith, length-append common body) in
     ap (λ k. drop k (common ++ body)) e ∙ drop_at common body (length common) refl
 
+-- what comes before a body of its length is the common part
 pub common_before : (common body : List ℕ) → common_bytes (length body) (common ++ body) ≡ common
 common_before common body =
     let e : length (common ++ body) - length body ≡ length common = omega (arith, length-append common body) in
     ap (λ k. take k (common ++ body)) e ∙ take_at common body (length common) refl
 
+-- each call of a transcript ended well
 abbrev pub AreEndedWell : List Said → Type 0
 AreEndedWell said = All (λ (s : Said). IsEndedWell s.call s.answer) said
 
@@ -59,6 +61,7 @@ sent_finish batch [] = refl
 sent_finish batch (s ∷ said) =
     ap (λ l. parcel_sent batch s.call s.answer ++ l) (sent_finish (batch_after batch s.call s.answer) said)
 
+-- a finish gets nothing
 pub got_finish : (held : Option UnitNote) (said : List Said) → got held (said ++ finish ∷ []) ≡ got held said
 unfolding got
 got_finish None [] = refl
@@ -75,6 +78,7 @@ module _ {Made : Type 0} (W : Work Made) (is : IsWork W) where
   abbrev pub reads_bytes : Test Made → WorkType → Option Rank → ℕ → List ℕ → Bool
   reads_bytes q kind answer long bytes = passes q (common_bytes long bytes) (W.read kind answer (own_bytes long bytes))
 
+  -- whether what a parcel's bytes are read as passes the test
   abbrev pub reads : Test Made → Parcel → Bool
   reads q p = reads_bytes q p.kind p.answer p.long (bytes_of p.common p.own)
 

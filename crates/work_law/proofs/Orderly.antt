@@ -143,6 +143,7 @@ module _ {Made : Type 0} (W : Work Made) (is : IsWork W) where
         ],
       )
 
+  -- a rank that works to its end and then finishes is orderly
   pub worker_orderly : (ranks : ℕ) (first left : List (Task Made)) (said : List Said) (came : List (Arrival Made)) → 0 < ranks →
       Goes W (going first None []) said (shut left None came) → IsOrderly ranks None None (said ++ finish ∷ [])
   worker_orderly ranks first left said came some goes =

@@ -15,11 +15,12 @@ pub data Task (Made : Type 0) : Type 0 where
   Begin : List ℕ → List Made → Task Made
   End : Task Made
 
+-- a put for each unit
 abbrev pub put_all : {Made : Type 0} → List Made → List (Task Made)
 put_all units = map Put units
 
--- what the rank is still to do, in order; the common bytes of the batch that is going on; the unit that was granted and is to be
--- fetched; the units that came to the rank, in order; and whether an end was told
+-- What the rank is still to do, in order. The common bytes of the batch that is going on, and the unit that was granted and is to be
+-- fetched. The units that came to the rank, in order, and whether an end was told.
 pub record Books (Made : Type 0) : Type 0 where
   pub tasks : List (Task Made)
   pub on : Option (List ℕ)
@@ -27,16 +28,20 @@ pub record Books (Made : Type 0) : Type 0 where
   pub came : List (Arrival Made)
   pub ended : Bool
 
+-- the common bytes of the batch that is going on, if one is
 abbrev pub bytes_on : Option (List ℕ) → List ℕ
 bytes_on None = []
 bytes_on (Some common) = common
 
+-- books between calls
 abbrev pub going : {Made : Type 0} → List (Task Made) → Option (List ℕ) → List (Arrival Made) → Books Made
 going tasks on came = record { tasks = tasks; on = on; held = None; came = came; ended = false }
 
+-- books with a unit that is granted
 abbrev pub holding : {Made : Type 0} → UnitNote → List (Arrival Made) → Books Made
 holding note came = record { tasks = []; on = None; held = Some note; came = came; ended = false }
 
+-- books after an end was told
 abbrev pub shut : {Made : Type 0} → List (Task Made) → Option (List ℕ) → List (Arrival Made) → Books Made
 shut tasks on came = record { tasks = tasks; on = on; held = None; came = came; ended = true }
 
@@ -57,10 +62,12 @@ in_batch common units tasks came = going (put_all units ++ End ∷ tasks) (Some 
 abbrev pub over_bytes : {Made : Type 0} → Work Made → List ℕ → List Made → List (Arrival Made)
 over_bytes W common units = map (arrival W common) units
 
+-- books after a batch was refused: its units are worked by the rank
 abbrev pub without_batch : {Made : Type 0} → Work Made → List ℕ → List Made → List (Task Made) → List (Arrival Made) → Books Made
 without_batch W common units tasks came =
     going (put_all (flat_map (made_by W) (over_bytes W common units)) ++ tasks) None (came ++ over_bytes W common units)
 
+-- a call with its answer
 abbrev pub said_of : Call → Answer → Said
 said_of call answer = record { call = call; answer = answer }
 

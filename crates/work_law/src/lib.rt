@@ -17,8 +17,9 @@ ghost use Rattle.work_law.specs.Work.{Arrival, IsWork, Work};
 
 use balance_law::balance_laws;
 
-/// In a legal run of ranks that work their tasks and then finish, for every kind of work: the ranks are orderly (`orderly`), and what
-/// came to all of them is, however it is counted, what they were to put first and what the work on it makes (`together`).
+/// Of a legal run of ranks that work their tasks and then finish, for every kind of work. The ranks are orderly
+/// (`orderly`). What came to all of them is, however it is counted, what they were to put first and what the work on
+/// it makes (`together`).
 pub fn work_laws<Made>()
     ensures orderly { (W : Work Made) → IsWork W → (config : Config) (ledger : List Entry) → 0 < config.ranks →
         (first : Rank → List (Task Made)) (came : Rank → List (Arrival Made)) →

@@ -22,6 +22,7 @@ use Rattle.work_queue.specs.inside.Units.{units_at}
 use Rattle.work_queue.specs.declared.placing.Placed.{Placed}
 use Rattle.work_queue.specs.declared.queues.WorkQueue.TheInside.{Inside}
 
+-- an update after more room is one of the slab before
 pub updates_from : (old mid new : Slab Placed) (key : ℕ) (p : Placed) → mid ≡ record old { capacity = mid.capacity }
     → Updates mid new key (Some p) → Updates old new key (Some p)
 updates_from old mid new key p mid_is updates = record {
@@ -69,6 +70,7 @@ pub record Comes (w v : Inside) (key : ℕ) (unit : Unit) : Type 0 where
   pub names_room : length v.rooms ≤ spare_in v.names
 
 module _ (w v : Inside) (key : ℕ) (unit : Unit) (sound : IsSound w) (comes : Comes w v key unit) where
+  -- the units after one comes: those before, and the new one last
   pub units_come : units_at v.slots v.order.items ≡ units_at w.slots w.order.items ++ record { unit = unit; pin = None } ∷ []
   units_come = ap (λ o. units_at v.slots o) comes.order
       ∙ units_added w.slots v.slots w.order.items key (record { unit = unit; pin = None }) sound.there comes.vacant comes.updates
@@ -90,6 +92,7 @@ module _ (w v : Inside) (key : ℕ) (unit : Unit) (sound : IsSound w) (comes : C
       let P : Placed → Type 0 = λ q. id_of q ≢ id in
       All-push P (units_at w.slots w.order.items) now (comes.apart k d within) (λ same. comes.unpromised k d within (sym same))
 
+  -- a queue is sound after a unit comes
   pub sound_come : IsSound v
   sound_come =
       let now : Placed = record { unit = unit; pin = None } in
@@ -118,6 +121,7 @@ module _ (w v : Inside) (key : ℕ) (unit : Unit) (sound : IsSound w) (comes : C
         names_room = comes.names_room;
       }
 
+  -- the queue after a unit comes, as its model says
   pub view_come : queue_of v ≡ record {
     units = units_at w.slots w.order.items ++ record { unit = unit; pin = None } ∷ [];
     promises = v.rooms;

@@ -120,6 +120,7 @@ module _ (units : List Placed) (n : ℕ) (index : Index) (indexed : IsIndexed un
               comes_first p q at.place other differs (slice_get_within units at.place p at.here) (rw at.is at over);
         }
 
+    -- if no entry leads for a rank, no unit is offered to it
     pub none_leads : IsLeading (may_have rank types) (suits_better rank) index.entries.items (length index.entries.items) None
         → Any (IsOffered rank types) units → ⊥
     none_leads leads some =
@@ -158,6 +159,7 @@ module _ (units : List Placed) (n : ℕ) (index : Index) (indexed : IsIndexed un
             moves_before p q at.place other differs (slice_get_within units other q there) (rw at.is at over);
       }
 
+  -- if no entry leads the move, no unit can be moved
   pub none_moves : IsLeading may_move moves_first index.entries.items (length index.entries.items) None → Any IsMovable units → ⊥
   none_moves leads some =
       let q = some.1 in
@@ -175,6 +177,7 @@ module _ (units : List Placed) (n : ℕ) (index : Index) (indexed : IsIndexed un
         by_pin None free = rw (free, fails free) refl
         by_pin (Some rank) pinned = rw pinned refl
 
+    -- the entry that leads for those that ask is that of the first fit
     pub fit_leads : (b : Entry) → IsLeading (may_serve asked) came_first index.entries.items (length index.entries.items) (Some b)
         → (at : IsEntryAt units index.stamps.items b) → Some (id_of at.unit) ≡ first_fit asked units
     fit_leads b leads at =
@@ -194,6 +197,7 @@ module _ (units : List Placed) (n : ℕ) (index : Index) (indexed : IsIndexed un
             let low : nat_lt (stamp_at k) b.stamp ≡ true = lt-ltb (stamp_at k) b.stamp (omega (arith, up, same)) in
             absurd (both_ways (nat_lt (stamp_at k) b.stamp) over low)
 
+    -- if no entry leads for those that ask, no unit fits
     pub none_fits : IsLeading (may_serve asked) came_first index.entries.items (length index.entries.items) None
         → None ≡ first_fit asked units
     none_fits leads =

@@ -10,9 +10,11 @@ use Rattle.adlb_unit.specs.declared.notes.Info.{Info}
 use Rattle.adlb_unit.specs.Infos.{info_of_prios}
 use Rattle.work_queue.specs.inside.Counting.{info_with}
 
+-- a count of free units, with the highest priority and how many have it
 abbrev pub told : ℕ → ℤ → ℕ → Info
 told free top at_top = record { free = free; top = Some top; at_top = at_top }
 
+-- counts of equal numbers and priorities are equal
 pub same_told : (f g : ℕ) (t u : ℤ) (a b : ℕ) → f ≡ g → t ≡ u → a ≡ b → told f t a ≡ told g u b
 same_told f g t u a b same_free same_top same_at = ap (λ n. told n t a) same_free ∙ ap (λ x. told g x a) same_top
     ∙ ap (λ n. told g u n) same_at
@@ -55,6 +57,7 @@ info_to q qs p m n top at =
     (count_by (int_le (fold int_max q (qs ++ p ∷ []))) (q ∷ (qs ++ p ∷ []))) n
     (length-append (q ∷ qs) (p ∷ [])) highest (ap (λ x. count_by (int_le x) (q ∷ (qs ++ p ∷ []))) highest ∙ pushed ∙ at)
 
+-- a count with one priority more
 pub info_push : (ps : List ℤ) (p : ℤ) → info_of_prios (ps ++ p ∷ []) ≡ info_with (info_of_prios ps) p
 info_push [] p = same_told 1 1 p p (count_by (int_le p) (p ∷ [])) 1 refl refl (ap (λ t. 0 + cond t 1 0) (le_self p))
 info_push (q ∷ qs) p = by_test (int_lt (fold int_max q qs) p) refl (int_lt p (fold int_max q qs)) refl

@@ -1,5 +1,5 @@
--- The order of four units, worked by hand: in arrival order any with priority 9, Soft of rank 1 with 5, Only of rank 0 with 0,
--- and Soft of rank 0 with 1.
+-- The order of four units, worked by hand. In arrival order they are Any with priority 9, Soft of rank 1 with 5, Only of rank 0 with 0, and
+-- Soft of rank 0 with 1.
 use Rattle.std.proofs.Common.{◌≡◌, ℕ, zero, suc, List, [], ◌∷◌, Option, Some, None, pos, map, refl}
 use Rattle.adlb_unit.specs.declared.names.Rank.{Rank}
 use Rattle.adlb_unit.specs.declared.names.Target.{Target}

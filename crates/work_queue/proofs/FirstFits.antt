@@ -43,11 +43,13 @@ module _ (asked : List (Rank × Option (List WorkType))) where
   fit_found None id same = absurd (none-some id (sym same))
   fit_found (Some p) id same = (p, refl, sym (same_Some id (id_of p) same))
 
+  -- if no id is named, there is no unit
   pub fit_missing : (o : Option Placed) → None ≡ option_map id_of o → o ≡ None
   fit_missing None same = refl
   fit_missing (Some p) same = absurd (none-some (id_of p) same)
 
   module _ (units : List Placed) (id : UnitId) (same : Some id ≡ first_fit asked units) where
+    -- the unit that is found is the first fit
     pub fit_is : IsFirstFit asked units id
     fit_is =
         let found = fit_found (find (asked_for asked) units) id same in
@@ -63,18 +65,21 @@ module _ (asked : List (Rank × Option (List WorkType))) where
               (ap (asked_for asked) (sym (get_or_from_slice_get units other q q at)) ∙ first.fails other q before) (is_asked q is);
         }
 
+    -- the unit that is found suits one that asks
     pub some_asked : Any (IsAsked asked) units
     some_asked =
         let found = fit_found (find (asked_for asked) units) id same in
         let first = find_first (asked_for asked) units found.0 found.1 in
         (first.place, found.0, first.within, first.read, asked_is found.0 first.passes)
 
+    -- the unit that is found is free
     pub fit_is_free : HasFree id units
     fit_is_free =
         let found = fit_found (find (asked_for asked) units) id same in
         let first = find_first (asked_for asked) units found.0 found.1 in
         (first.place, found.0, first.within, first.read, (found.2, (asked_is found.0 first.passes).0))
 
+  -- if no fit is found, no unit suits one that asks
   pub none_asked : (units : List Placed) → None ≡ first_fit asked units → Any (IsAsked asked) units → ⊥
   none_asked units same some =
       let fails = find_none (asked_for asked) units (fit_missing (find (asked_for asked) units) same) some.0 some.1 some.2 in

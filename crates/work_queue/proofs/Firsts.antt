@@ -55,12 +55,14 @@ module _ (rank : Rank) (types : Option (List WorkType)) where
   pub best_is : (units : List Placed) (r : Rated) → Some r ≡ best_from rank types None units → IsBest rank types units r.id
   best_is units r same = leads_is_best units r (found_so units (Some r) same)
 
+  -- if the walk ends with a best, some unit is offered
   pub some_offered : (units : List Placed) (r : Rated) → Some r ≡ best_from rank types None units → Any (IsOffered rank types) units
   some_offered units r same =
       let some = some_may (offered rank types) (rating rank) beats (Precedes rank) (pick rank types) by_rating picks units r
       (found_so units (Some r) same) in
       (some.0, some.1, some.2, some.3, offered_is rank types some.1 some.4)
 
+  -- if the walk ends with no best, no unit of the list is offered
   pub none_offered : (units : List Placed) → None ≡ best_from rank types None units → Any (IsOffered rank types) units → ⊥
   none_offered units same some = none_may (offered rank types) (rating rank) beats (Precedes rank) (pick rank types) by_rating picks units
       (found_so units None same) (some.0, some.1, some.2, some.3, is_offered rank types some.1 some.4)

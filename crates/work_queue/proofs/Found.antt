@@ -36,6 +36,7 @@ pub placed : (w : Inside) (id : UnitId) (place : ℕ) → IsSound w
     → place ≡ position_or_len (is_unit id) (units_at w.slots w.order.items)
 placed w id place sound tells = tells (units_at w.slots w.order.items) sound.distinct sound.named sound.indexed.long
 
+-- the place of a unit that is there is within the order
 pub place_in_order : (w : Inside) (id : UnitId) (place : ℕ) → IsSound w → HasUnit id (units_at w.slots w.order.items)
     → place ≡ position_or_len (is_unit id) (units_at w.slots w.order.items) → place < length w.order.items
 place_in_order w id place sound has is =
@@ -43,6 +44,7 @@ place_in_order w id place sound has is =
     let long = length-units w.slots w.order.items sound.there in
     omega (arith, is, inside, long)
 
+-- the unit that is there is found at its place and key
 pub found_at : (w : Inside) (id : UnitId) (place key : ℕ) → IsSound w → HasUnit id (units_at w.slots w.order.items)
     → place ≡ position_or_len (is_unit id) (units_at w.slots w.order.items) → key ≡ get_or w.order.items place key
     → (p : Placed) × IsFound w place key p id
@@ -63,10 +65,11 @@ found_at w id place key sound has is read =
       },
     )
 
+-- a place not within a length is past it
 pub not_within : (place n : ℕ) → (place < n → ⊥) → n ≤ place
 not_within place n past = elim (cases_lt place n) [ inl below ↦ absurd (past below) | inr beyond ↦ beyond ]
 
--- what stands under the key at that place, and beyond the last
+-- what is under the key at that place, and beyond the last
 pub found_under : (w : Inside) (id : UnitId) (place key : ℕ) → IsSound w
     → place ≡ position_or_len (is_unit id) (units_at w.slots w.order.items) → place < length w.order.items
     → key ≡ get_or w.order.items place key → get w.slots key ≡ find (is_unit id) (units_at w.slots w.order.items)
@@ -76,6 +79,7 @@ found_under w id place key sound is within read =
     ∙ ap (λ n. slice_get (units_at w.slots w.order.items) n) is
     ∙ sym (find_at (is_unit id) (units_at w.slots w.order.items))
 
+-- if the place is past the order, no unit has the id
 pub found_past : (w : Inside) (id : UnitId) (place : ℕ) → IsSound w → place ≡ position_or_len (is_unit id) (units_at w.slots w.order.items)
     → (place < length w.order.items → ⊥) → None ≡ find (is_unit id) (units_at w.slots w.order.items)
 found_past w id place sound is past =
@@ -85,6 +89,7 @@ found_past w id place sound is past =
     ∙ ap (λ n. slice_get (units_at w.slots w.order.items) n) is
     ∙ sym (find_at (is_unit id) (units_at w.slots w.order.items))
 
+-- there are as many stamps as units in order
 pub as_long_as_order : (w : Inside) → IsSound w → length w.index.stamps.items ≡ length w.order.items
 as_long_as_order w sound = sound.indexed.long ∙ length-units w.slots w.order.items sound.there
 
@@ -94,6 +99,7 @@ pub leading_unit : (w : Inside) (e : Entry) (p : Placed) → (at : IsEntryAt (un
     → p ≡ q) → p ≡ at.unit
 leading_unit w e p at found = found at.place at.unit at.here (sym (ap (λ (x : Entry). x.stamp) at.is))
 
+-- a unit of a sound queue is small
 pub small_at : (w : Inside) (place : ℕ) (p : Placed) → IsSound w → slice_get (units_at w.slots w.order.items) place ≡ Some p → IsSmall p
 small_at w place p sound at =
     let S : Placed → Type 0 = λ q. IsSmall q in
@@ -106,6 +112,7 @@ module _ (w : Inside) (place key : ℕ) (p : Placed) (id : UnitId) (sound : IsSo
       let key_in : Contains w.order.items key = rw at.key_is at (Contains-get_or w.order.items place 0 at.within) in
       unit_listed w.slots w.order.items key p at.found key_in
 
+  -- the unit that was found is small
   pub small_found : IsSmall p
   small_found =
       let P : Placed → Type 0 = λ q. IsSmall q in

@@ -29,6 +29,7 @@ pub record IsGrown (w v : Inside) : Type 0 where
   pub names_room : length v.rooms ≤ spare_in v.names
 
 module _ (w v : Inside) (sound : IsSound w) (grown : IsGrown w v) where
+  -- more room keeps the units
   pub units_kept : units_at v.slots v.order.items ≡ units_at w.slots w.order.items
   units_kept = ap (λ o. units_at v.slots o) grown.items ∙ ap (λ s. units_at s w.order.items) grown.slots
 
@@ -58,24 +59,29 @@ module _ (w v : Inside) (sound : IsSound w) (grown : IsGrown w v) where
     names_room = grown.names_room;
   }
 
+  -- the queue after its promises change, as its model says
   pub view_rooms : queue_of v
       ≡ record { units = units_at w.slots w.order.items; promises = v.rooms; common = v.common; arrivals = v.arrivals; limit = v.limit }
   view_rooms = rw units_kept refl
 
+-- promises stay distinct with one for an id that had none
 pub once_more : (promises : List Promise) (id : UnitId) (n : ℕ) → HasDistinctPromises promises → HasNoPromise id promises
     → HasDistinctPromises (promises ++ record { id = id; length = n } ∷ [])
 once_more promises id n once none = all_pairs_push (λ (p q : Promise). p.id ≢ q.id) promises (record { id = id; length = n }) once none
 
+-- promises stay apart from units with one for an id without a unit
 pub apart_more : (units : List Placed) (promises : List Promise) (id : UnitId) (n : ℕ) → HasApartPromises units promises
     → HasNoUnit id units → HasApartPromises units (promises ++ record { id = id; length = n } ∷ [])
 apart_more units promises id n apart none =
     let P : Promise → Type 0 = λ p. HasNoUnit p.id units in
     All-push P promises (record { id = id; length = n }) apart none
 
+-- promises stay distinct without one
 pub once_left : (promises : List Promise) (id : UnitId) → HasDistinctPromises promises
     → HasDistinctPromises (filter (is_for_other id) promises)
 once_left promises id once = AllPairs-filter (λ (p q : Promise). p.id ≢ q.id) (is_for_other id) promises once
 
+-- promises stay apart from units without one
 pub apart_left : (units : List Placed) (promises : List Promise) (id : UnitId) → HasApartPromises units promises
     → HasApartPromises units (filter (is_for_other id) promises)
 apart_left units promises id apart =

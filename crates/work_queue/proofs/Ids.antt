@@ -17,6 +17,7 @@ use Rattle.work_queue.specs.declared.placing.Placed.{Placed}
 pub other_stays : (id : UnitId) (rank : Rank) (q : Placed) → id_of q ≢ id → pinned_by id rank q ≡ q
 other_stays id rank q differs = ap (λ t. cond t (record q { pin = Some rank }) q) (unit_differs (id_of q) id differs)
 
+-- the unit of the id is pinned to the rank
 pub this_pinned : (id : UnitId) (rank : Rank) (p : Placed) → id_of p ≡ id → pinned_by id rank p ≡ record p { pin = Some rank }
 this_pinned id rank p e = ap (λ t. cond t (record p { pin = Some rank }) p) (same_unit_from (id_of p) id e)
 
@@ -28,6 +29,7 @@ unit_pinned id rank q = by_test (same_unit (id_of q) id)
     by_test true = refl
     by_test false = refl
 
+-- units of other ids are not pinned
 pub map_others : (id : UnitId) (rank : Rank) (units : List Placed) → All (λ q. id_of q ≢ id) units → map (pinned_by id rank) units ≡ units
 map_others id rank [] others = refl
 map_others id rank (q ∷ units) others =
@@ -39,10 +41,12 @@ pub others_before : (front back : List Placed) (p : Placed) (id : UnitId) → Ha
     → All (λ q. id_of q ≢ id) front
 others_before = named.others_before id_of
 
+-- the units after one have other ids
 pub others_after : (front back : List Placed) (p : Placed) (id : UnitId) → HasDistinctIds (front ++ p ∷ back) → id_of p ≡ id
     → All (λ q. id_of q ≢ id) back
 others_after = named.others_after id_of
 
+-- a pin changes the unit at its place alone
 pub map_at : (front back : List Placed) (p : Placed) (id : UnitId) (rank : Rank) → HasDistinctIds (front ++ p ∷ back) → id_of p ≡ id
     → map (pinned_by id rank) (front ++ p ∷ back) ≡ front ++ record p { pin = Some rank } ∷ back
 map_at front back p id rank distinct is =
@@ -53,6 +57,7 @@ map_at front back p id rank distinct is =
       map_others id rank back (others_after front back p id distinct is),
     ) refl
 
+-- a removal takes the unit at its place alone
 pub filter_at : (front back : List Placed) (p : Placed) (id : UnitId) → HasDistinctIds (front ++ p ∷ back) → id_of p ≡ id
     → filter (has_other_id id) (front ++ p ∷ back) ≡ front ++ back
 filter_at = named.filter_at id_of
@@ -75,12 +80,14 @@ distinct_pinned id rank units distinct i j d before within same =
 size_pinned : (id : UnitId) (rank : Rank) (q : Placed) → size_of (pinned_by id rank q) ≡ size_of q
 size_pinned id rank q = ap (λ u. length u.body) (unit_pinned id rank q)
 
+-- pinned units stay small
 pub small_pinned : (id : UnitId) (rank : Rank) (units : List Placed) → All IsSmall units → All IsSmall (map (pinned_by id rank) units)
 small_pinned id rank units small =
     let P : Placed → Type 0 = λ q. IsSmall q in
     let Q : Placed → Type 0 = λ q. IsSmall (pinned_by id rank q) in
     All-map P (pinned_by id rank) units (All-weaker P Q (λ q h. omega (arith, h, size_pinned id rank q)) units small)
 
+-- a pin keeps the sizes
 pub sizes_pinned : (id : UnitId) (rank : Rank) (units : List Placed) → sum_by size_of (map (pinned_by id rank) units) ≡ sum_by size_of units
 sizes_pinned id rank [] = refl
 sizes_pinned id rank (q ∷ units) =

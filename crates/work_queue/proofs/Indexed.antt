@@ -18,6 +18,7 @@ use Rattle.work_queue.specs.declared.entries.Entry.{Entry}
 use Rattle.work_queue.specs.declared.indexing.Index.{Index}
 use Rattle.work_queue.specs.declared.placing.Placed.{Placed}
 
+-- the entries of two lists are those of each, one after the other
 pub entries_append : (xs ys : List Placed) (ss ts : List ℕ) → length ss ≡ length xs
     → entries_of (xs ++ ys) (ss ++ ts) ≡ entries_of xs ss ++ entries_of ys ts
 entries_append [] ys [] ts long = refl
@@ -45,6 +46,7 @@ later_entry : (p : Placed) (units : List Placed) (s : ℕ) (stamps : List ℕ) (
 later_entry p units s stamps e at =
     record { place = suc at.place; unit = at.unit; here = at.here; free = at.free; within = omega (arith, at.within); is = at.is }
 
+-- each entry of the index is that of some free unit
 pub entry_is_at : (units : List Placed) (stamps : List ℕ) (e : Entry) → Contains (entries_of units stamps) e → IsEntryAt units stamps e
 entry_is_at [] stamps e there = absurd (omega (arith, there.1))
 entry_is_at (p ∷ units) [] e there = absurd (omega (arith, there.1))
@@ -58,6 +60,7 @@ entry_is_at (p ∷ units) (s ∷ stamps) e there = by_pin p.pin refl there (entr
     ]
     by_pin (Some rank) pinned there rest = later_entry p units s stamps e (rest there)
 
+-- each free unit has its entry in the index
 pub entry_is_there : (units : List Placed) (stamps : List ℕ) (k : ℕ) (p : Placed) → slice_get units k ≡ Some p → p.pin ≡ None
     → k < length stamps → Contains (entries_of units stamps) (entry_of p (get_or stamps k 0))
 entry_is_there [] stamps k p at free within = absurd (none-some p at)
@@ -112,12 +115,14 @@ module _ (units : List Placed) (n : ℕ) (old : Index) (indexed : IsIndexed unit
 -- the units, and their stamps, before and after one of them
 module _ (front back : List Placed) (p : Placed) (sf sb : List ℕ) (s n : ℕ) (old : Index) (indexed : IsIndexed (front ++ p ∷ back) n old)
     (stamps : old.stamps.items ≡ sf ++ s ∷ sb) (long : length sf ≡ length front) where
+  -- the entries of the other units
   abbrev pub others : List Entry
   others = entries_of front sf ++ entries_of back sb
 
   parted : (now : Placed) → entries_of (front ++ now ∷ back) (sf ++ s ∷ sb) ≡ entries_of front sf ++ entries_of (now ∷ back) (s ∷ sb)
   parted now = entries_append front (now ∷ back) sf (s ∷ sb) long
 
+  -- a free unit has its entry in the old index
   pub entry_there : p.pin ≡ None → Contains old.entries.items (entry_of p s)
   entry_there free =
       let one : entries_of (p ∷ back) (s ∷ sb) ≡ entry_of p s ∷ entries_of back sb = rw free refl in

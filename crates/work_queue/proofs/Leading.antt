@@ -22,8 +22,8 @@ last_place : (xs : List Placed) (y : Placed) → slice_get (xs ++ y ∷ []) (len
 last_place [] y = refl
 last_place (x ∷ xs) y = last_place xs y
 
--- the order: a later unit that does not beat an earlier one comes after it, and one that does comes before it and before all that
--- the earlier one came before
+-- The order. A later unit that does not beat an earlier one comes after it. One that does comes before it and before all that the earlier
+-- one came before.
 pub record IsOrder {R : Type 0} (rate : Placed → R) (beats : R → R → Bool) (Before : ℕ → Placed → ℕ → Placed → Type 0) : Type 0 where
   pub stays : (i j : ℕ) (u y : Placed) → i < j → beats (rate y) (rate u) ≡ false → Before i u j y
   pub passes : (i j : ℕ) (u y : Placed) → i < j → beats (rate y) (rate u) ≡ true → Before j y i u
@@ -150,6 +150,7 @@ module _ {R : Type 0} (may : Placed → Bool) (rate : Placed → R) (beats : R �
   pub found_all : (units : List Placed) → Found units (fold pick None units)
   found_all units = found_more [] units None (λ k q at. absurd (none-some q at))
 
+  -- if some rating leads, some unit may be taken
   pub some_may : (units : List Placed) (r : R) → Leads units r → Any (λ p. may p ≡ true) units
   some_may units r leads = (
     leads.place,
@@ -159,6 +160,7 @@ module _ {R : Type 0} (may : Placed → Bool) (rate : Placed → R) (beats : R �
     leads.is,
   )
 
+  -- if no rating is found, no unit may be taken
   pub none_may : (units : List Placed) → Found units None → Any (λ p. may p ≡ true) units → ⊥
   none_may units none some =
       both_ways (may some.1) (none some.0 some.1 (slice_get-get_or units some.0 some.1 some.2 ∙ ap (λ p. Some p) some.3)) some.4

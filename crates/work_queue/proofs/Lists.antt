@@ -23,6 +23,7 @@ use Rattle.work_queue.specs.Best.{IsBest}
 use Rattle.work_queue.specs.Queue.{HasDistinctIds, HasFree, HasPinned, Queue, has_other_id, id_of, pinned_by, with_pin, without}
 use Rattle.work_queue.specs.declared.placing.Placed.{Placed}
 
+-- a unit of a list splits it before and after it
 pub split_at : (units : List Placed) (p : Placed) → Contains units p → (front : List Placed) × (back : List Placed)
     × (units ≡ front ++ p ∷ back)
 split_at units p there =
@@ -48,6 +49,7 @@ module _ (units : List Placed) (p : Placed) (id : UnitId) (distinct : HasDistinc
       ∙ filter_at parts.0 parts.1 p id parted is in
       moved units (filter (has_other_id id) units) parts.0 parts.1 p parts.2 others
 
+  -- a sum over units is that of one and of those of other ids
   pub sum_by-others : (f : Placed → ℕ) → sum_by f units ≡ f p + sum_by f (filter (has_other_id id) units)
   sum_by-others f = sym (sum_by-IsPermutation f units (p ∷ filter (has_other_id id) units) others_first)
       ∙ sum_by-cons f p (filter (has_other_id id) units)
@@ -65,6 +67,7 @@ module _ (units : List Placed) (p : Placed) (id : UnitId) (distinct : HasDistinc
       ∙ map_at parts.0 parts.1 p id rank parted is in
       moved (map (pinned_by id rank) units) (filter (has_other_id id) units) parts.0 parts.1 now pinned others
 
+  -- a sum after a pin is that of the pinned unit and of those of other ids
   pub sum_by-pinned : (rank : Rank) (f : Placed → ℕ)
       → sum_by f (map (pinned_by id rank) units) ≡ f (record p { pin = Some rank }) + sum_by f (filter (has_other_id id) units)
   sum_by-pinned rank f =
@@ -109,11 +112,12 @@ id_gone id units =
 pub distinct_left : (id : UnitId) (units : List Placed) → HasDistinctIds units → HasDistinctIds (filter (has_other_id id) units)
 distinct_left id units distinct = AllPairs-filter (λ a b. id_of a ≢ id_of b) (has_other_id id) units distinct
 
+-- units stay distinct with one of a new id
 pub distinct_added : (units : List Placed) (p : Placed) → HasDistinctIds units → All (λ q. id_of q ≢ id_of p) units
     → HasDistinctIds (units ++ p ∷ [])
 distinct_added units p distinct fresh = all_pairs_push (λ a b. id_of a ≢ id_of b) units p distinct fresh
 
--- the unit that is added last may as well stand first
+-- the unit that is added last may as well come first
 pub added_first : (units : List Placed) (p : Placed) → IsPermutation (units ++ p ∷ []) (p ∷ units)
 added_first units p = IsPermutation-to_front units p
 
@@ -121,6 +125,7 @@ added_first units p = IsPermutation-to_front units p
 pub free_unit : (id : UnitId) (units : List Placed) → HasFree id units → (p : Placed) × Contains units p × (id_of p ≡ id) × (p.pin ≡ None)
 free_unit id units has = (has.1, (has.0, has.2, has.3), has.4.0, has.4.1)
 
+-- a unit that is pinned to a rank, from what is known of its id
 pub pinned_unit : (id : UnitId) (rank : Rank) (units : List Placed) → HasPinned id rank units
     → (p : Placed) × Contains units p × (id_of p ≡ id) × (p.pin ≡ Some rank)
 pinned_unit id rank units has = (has.1, (has.0, has.2, has.3), has.4.0, has.4.1)
@@ -182,6 +187,7 @@ any_left P id units has =
     ) (not_from_false (same_unit (id_of has.1) id) (unit_differs (id_of has.1) id has.4.1)) in
     (there.0, has.1, there.1, there.2, has.4.0)
 
+-- what holds of another unit holds of one after a pin
 pub any_pinned : (P : Placed → Type 0) (id : UnitId) (rank : Rank) (units : List Placed) → Any (λ p. P p × (id_of p ≢ id)) units
     → Any P (map (pinned_by id rank) units)
 any_pinned P id rank units has =
@@ -197,6 +203,7 @@ pinned_left id other holder units differs has =
     let P : Placed → Type 0 = λ p. (id_of p ≡ other) × (p.pin ≡ Some holder) in
     any_left P id units (has.0, has.1, has.2, has.3, (has.4, λ same. differs (sym has.4.0 ∙ same)))
 
+-- a pin leaves the pins of other units
 pub pinned_stays : (id other : UnitId) (rank holder : Rank) (units : List Placed) → other ≢ id → HasPinned other holder units
     → HasPinned other holder (map (pinned_by id rank) units)
 pinned_stays id other rank holder units differs has =
@@ -214,6 +221,7 @@ pub record IsTaken (before after : List Placed) (id : UnitId) (body : List ℕ) 
   pub distinct : HasDistinctIds after
   pub gone : All (λ q. id_of q ≢ id) after
 
+-- a unit that is pinned and then taken is taken from the queue as it was
 pub pinned_then_taken : (units : List Placed) (id : UnitId) (rank : Rank) (body : List ℕ) → HasDistinctIds units → HasFree id units
     → All (λ p. id_of p ≡ id → body ≡ p.unit.body) (map (pinned_by id rank) units)
     → IsTaken units (filter (has_other_id id) (map (pinned_by id rank) units)) id body

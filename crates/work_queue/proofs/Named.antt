@@ -12,12 +12,15 @@ use Rattle.adlb_unit.proofs.Same.{same_unit_from, same_unit_is, unit_differs}
 use Rattle.work_queue.proofs.Searched.{find_first, find_none}
 
 module _ {X : Type 0} (name : X → UnitId) where
+  -- an element has the id
   abbrev pub is_of : UnitId → X → Bool
   is_of id x = same_unit (name x) id
 
+  -- an element has another id
   abbrev pub is_not_of : UnitId → X → Bool
   is_not_of id x = not (same_unit (name x) id)
 
+  -- without an element of the id, a filter by it keeps all
   pub filter_others : (id : UnitId) (xs : List X) → All (λ x. name x ≢ id) xs → filter (is_not_of id) xs ≡ xs
   filter_others id [] others = refl
   filter_others id (x ∷ xs) others =
@@ -33,6 +36,7 @@ module _ {X : Type 0} (name : X → UnitId) where
       let long : length (front ++ x ∷ back) ≡ length front + suc (length back) = length-append front (x ∷ back) in
       distinct k (length front) d within (omega arith) (ap name here ∙ same ∙ sym is ∙ sym (ap name there))
 
+  -- the elements after one have other ids
   pub others_after : (front back : List X) (x : X) (id : UnitId) → AllPairs (λ a b. name a ≢ name b) (front ++ x ∷ back) → name x ≡ id
       → All (λ y. name y ≢ id) back
   others_after front back x id distinct is k d within same =
@@ -41,6 +45,7 @@ module _ {X : Type 0} (name : X → UnitId) where
       let long : length (front ++ x ∷ back) ≡ length front + suc (length back) = length-append front (x ∷ back) in
       distinct (length front) (length front + suc k) d (omega arith) (omega arith) (ap name there ∙ is ∙ sym same ∙ sym (ap name here))
 
+  -- a filter by an id takes its element alone
   pub filter_at : (front back : List X) (x : X) (id : UnitId) → AllPairs (λ a b. name a ≢ name b) (front ++ x ∷ back) → name x ≡ id
       → filter (is_not_of id) (front ++ x ∷ back) ≡ front ++ back
   filter_at front back x id distinct is =
@@ -51,6 +56,7 @@ module _ {X : Type 0} (name : X → UnitId) where
         filter_others id back (others_after front back x id distinct is),
       ) refl
 
+  -- removing by place is filtering by id
   pub remove_is : (xs : List X) (i : ℕ) (x : X) (id : UnitId) → AllPairs (λ a b. name a ≢ name b) xs → i < length xs → x ≡ get_or xs i x
       → name x ≡ id → remove xs i ≡ filter (is_not_of id) xs
   remove_is xs i x id distinct within read is =
@@ -86,11 +92,13 @@ module _ {X : Type 0} (name : X → UnitId) where
 
   -- so what holds of the one of an id holds of some element of that id, and the other way
   module _ (P : X → Type 0) (xs : List X) (id : UnitId) (distinct : AllPairs (λ a b. name a ≢ name b) xs) where
+    -- a property of the element that was found is one of the id
     pub any_found : (x : X) → find (is_of id) xs ≡ Some x → P x → Any (λ y. (name y ≡ id) × P y) xs
     any_found x found holds =
         let at = find_listed xs x id found in
         (at.0.0, x, at.0.1, at.0.2, (at.1, holds))
 
+    -- a property of the id is one of the element that was found
     pub found_any : (x : X) → find (is_of id) xs ≡ Some x → Any (λ y. (name y ≡ id) × P y) xs → P x
     found_any x found some =
         let at = find_listed xs x id found in
@@ -98,5 +106,6 @@ module _ {X : Type 0} (name : X → UnitId) where
         let Q : X → Type 0 = λ y. P y in
         subst Q is some.4.1
 
+    -- if nothing is found, no element of the id has any property
     pub nothing_any : find (is_of id) xs ≡ None → Any (λ y. (name y ≡ id) × P y) xs → ⊥
     nothing_any none some = find_nothing xs id none some.0 some.1 some.2 (ap name some.3 ∙ some.4.0)

@@ -31,9 +31,11 @@ number_self k = grind (arith, nat_tests)
 stamp_test : (a b : ℕ) → a < b → nat_lt a b ≡ true
 stamp_test a b lt = grind (arith, nat_tests)
 
+-- stamps that rise do so by the test
 pub rising_before : (stamps : List ℕ) → AllPairs (λ a b. a < b) stamps → AllPairs (λ a b. nat_lt a b ≡ true) stamps
 rising_before stamps rising i j d before within = stamp_test (get_or stamps i d) (get_or stamps j d) (rising i j d before within)
 
+-- the place at which a stamp is cut off is its own
 pub stamp_stands : (stamps : List ℕ) (stamp n : ℕ) → AllPairs (λ a b. a < b) stamps → n ≤ length stamps
     → IsPartitionPoint (λ x. nat_lt x stamp ≡ true) (λ x. nat_lt x stamp ≡ false) stamps n → (k d : ℕ) → k < length stamps
     → get_or stamps k d ≡ stamp → n ≡ k
@@ -141,6 +143,7 @@ place_is units id place p distinct at is =
           (same_unit_from (id_of (get_or units place p)) id (ap id_of read ∙ is)))
     ]
 
+-- the place of a unit that is there is within the list
 pub place_within : (units : List Placed) (id : UnitId) → HasUnit id units → position_or_len (is_unit id) units < length units
 place_within units id has = by_cases (cases_order (position_or_len (is_unit id) units) has.0)
   where

@@ -36,6 +36,7 @@ is_has_kind : (types : Option (List WorkType)) (kind : WorkType) → HasKind typ
 is_has_kind None kind has = refl
 is_has_kind (Some kinds) kind has = listed_kind kinds kind has
 
+-- a unit without a pin has none to name
 pub free_is : (pin : Option Rank) → is_none pin ≡ true → pin ≡ None
 free_is None test = refl
 free_is (Some rank) test = absurd (false≢true test)
@@ -47,6 +48,7 @@ permitted_is rank types kind target test =
     let parts = and_parts (is_for target rank) (has_kind types kind) test in
     (has_kind_is types kind parts.1, is_for_is target rank parts.0)
 
+-- what a rank may have passes the test
 pub is_permitted : (rank : Rank) (types : Option (List WorkType)) (kind : WorkType) (target : Target) → Permits rank types kind target
     → permitted rank types kind target ≡ true
 is_permitted rank types kind target is =
@@ -58,6 +60,7 @@ offered_is rank types p test =
     let free = and_parts (is_none p.pin) (permitted rank types p.unit.kind p.unit.target) test in
     (free_is p.pin free.0, permitted_is rank types p.unit.kind p.unit.target free.1)
 
+-- a unit that is offered passes the test
 pub is_offered : (rank : Rank) (types : Option (List WorkType)) (p : Placed) → IsOffered rank types p → offered rank types p ≡ true
 is_offered rank types p is = and_from (is_none p.pin) (permitted rank types p.unit.kind p.unit.target) (rw is.0 refl)
     (is_permitted rank types p.unit.kind p.unit.target is.1)
@@ -94,6 +97,7 @@ passes_all a b c x y z rest last (inl lower) (inr tie) = inl (omega (arith, tie.
 passes_all a b c x y z rest last (inr even) (inl first) = inl (omega (arith, even.0))
 passes_all a b c x y z rest last (inr even) (inr tie) = inr (even.0 ∙ tie.0, above x y z rest last even.1 tie.1)
 
+-- a higher class, or the class and a higher priority, passes whatever comes last
 pub passes_one : (a b : ℕ) (x y : ℤ) (last : Type 0) → (b < a) ⊎ ((b ≡ a) × (x <ℤ y)) → ByClass b a (ByPriority y x last)
 passes_one a b x y last (inl lower) = inl lower
 passes_one a b x y last (inr even) = inr (even.0, inl even.1)

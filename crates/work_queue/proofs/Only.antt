@@ -19,6 +19,7 @@ module _ (May : Placed → Type 0) (Before : ℕ → Placed → ℕ → Placed �
   abbrev IsFirst : ℕ → Placed → Type 0
   IsFirst i p = (other : ℕ) (r : Placed) → slice_get units other ≡ Some r → other ≢ i → May r → Before i p other r
 
+  -- two units that both come first are one
   pub only_first : (i j : ℕ) (p q : Placed) → slice_get units i ≡ Some p → slice_get units j ≡ Some q → May p → May q → IsFirst i p
       → IsFirst j q → p ≡ q
   only_first i j p q at there may_p may_q first_p first_q = elim (cases_eq i j) [

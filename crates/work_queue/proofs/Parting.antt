@@ -6,13 +6,14 @@ use Rattle.std.proofs.lemmas.Bool.{cases_lt}
 use Rattle.std.proofs.lemmas.List.{length-append, get_or_append_left, get_or-append-add, get_or_default}
 
 module _ (front back : List ℕ) (rises : AllPairs (λ a b. a < b) (front ++ back)) where
+  -- numbers that rise do so in the second list
   pub back_rises : AllPairs (λ a b. a < b) back
   back_rises i j d before within =
       let long = length-append front back in
       rw (sym (get_or-append-add front back i d), sym (get_or-append-add front back j d))
       (rises (length front + i) (length front + j) d (omega (arith, before)) (omega (arith, long, within)))
 
-  -- what stands in the first list is not above its last
+  -- what is in the first list is not above its last
   not_above : (k d : ℕ) → k < length front → get_or (front ++ back) k d ≤ get_or front (length front - 1) d
   not_above k d within = elim (cases_lt k (length front - 1)) [
     | inl before ↦
@@ -26,7 +27,7 @@ module _ (front back : List ℕ) (rises : AllPairs (λ a b. a < b) (front ++ bac
         omega (arith, same)
   ]
 
-  -- what stands in the other list is above the last of the first
+  -- what is in the other list is above the last of the first
   above : (k d : ℕ) → 0 < length front → length front ≤ k → k < length (front ++ back)
       → get_or front (length front - 1) d < get_or (front ++ back) k d
   above k d some behind within =
@@ -45,7 +46,7 @@ module _ (front back : List ℕ) (rises : AllPairs (λ a b. a < b) (front ++ bac
         absurd (omega (arith, more, last_is d, low, is))
   ]
 
-  -- a number that is above all of the first list stands in the other
+  -- a number that is above all of the first list is in the other
   pub stands_behind : (stamp place n : ℕ) → n ≡ length front → ((d : ℕ) → 0 < length front → get_or front (length front - 1) d < stamp)
       → ((k d : ℕ) → k < length back → get_or back k d ≡ stamp → place ≡ k)
       → (k d : ℕ) → k < length (front ++ back) → get_or (front ++ back) k d ≡ stamp → n + place ≡ k
@@ -68,6 +69,7 @@ pub last_read : (list : List ℕ) (last n : ℕ) → n ≡ length list → 0 < l
 last_read list last n n_is some read d =
     get_or_default list (length list - 1) d last (omega (arith, some)) ∙ sym (read ∙ ap (λ k. get_or list (k - 1) last) n_is)
 
+-- what follows of an option's value follows of the option
 pub after_some : {X : Type 0} (o : Option X) {A B : Type 0} → (A → B) → OnSome o A → OnSome o B
 after_some None f none = tt
 after_some (Some x) f some = f some

@@ -1,4 +1,4 @@
--- Where an entry stands in the index, and where a run ends.
+-- Where an entry is in the index, and where a run ends.
 use Rattle.std.proofs.Common.{◌≡◌, ◌≢◌, ◌<◌, ◌≤◌, ◌⊎◌, ℕ, Bool, true, false, not, List, get_or, length, refl, arith, inl, inr, All}
 use Rattle.std.specs.List.{insert}
 use Rattle.std.specs.List.Sorted.{IsPartitionPoint, IsPartitionedBy}
@@ -8,7 +8,7 @@ use Rattle.work_queue.proofs.Sorted.{added_in_order}
 use Rattle.work_queue.specs.inside.Index.{IsInOrder, goes_before, runs_before}
 use Rattle.work_queue.specs.declared.entries.Entry.{Entry}
 
--- the entries of the run of one, and those of earlier runs, stand before those of later runs
+-- the entries of the run of one, and those of earlier runs, come before those of later runs
 pub parted_runs : (entries : List Entry) (entry : Entry) → IsInOrder entries → IsPartitionedBy (λ x. not (runs_before entry x)) entries
 parted_runs entries entry order i j d le within is = by_cases (cases_eq i j)
   where
@@ -22,6 +22,7 @@ parted_runs entries entry order i j d le within is = by_cases (cases_eq i j)
     by_cases (inl same) = rw same is
     by_cases (inr differs) = by_test (runs_before entry (get_or entries i d)) refl (omega arith)
 
+-- the point where a run ends, by the test as it is written
 pub run_point : (entries : List Entry) (entry : Entry) (n : ℕ) → IsPartitionPoint (λ x. not (runs_before entry x) ≡ true)
     (λ x. not (runs_before entry x) ≡ false) entries n
     → IsPartitionPoint (λ x. runs_before entry x ≡ false) (λ x. runs_before entry x ≡ true) entries n

@@ -13,6 +13,7 @@ use Rattle.work_queue.proofs.Named.{only_one, remove_is}
 use Rattle.work_queue.specs.Queue.{HasApartPromises, HasDistinctPromises, HasNoPromise, HasNoUnit, HasRoom, Promise, is_for_other, promised}
 use Rattle.work_queue.specs.declared.placing.Placed.{Placed}
 
+-- the id that a promise is for
 abbrev pub promised_id : Promise → UnitId
 promised_id p = p.id
 
@@ -21,6 +22,7 @@ pub only_promise : (promises : List Promise) (k i : ℕ) (d r : Promise) → Has
     → i < length promises → r ≡ get_or promises i r → (get_or promises k d).id ≡ r.id → get_or promises k d ≡ r
 only_promise promises k i d r distinct within at read same = only_one promised_id promises k d r distinct (i, at, sym read) within same
 
+-- the room of an id is the length of the promise that was found
 pub room_found : (promises : List Promise) (i : ℕ) (r : Promise) (id : UnitId) → HasDistinctPromises promises → i < length promises
     → r ≡ get_or promises i r → r.id ≡ id → (n : ℕ) → (Some r.length ≡ Some n) ↔ HasRoom id n promises
 room_found promises i r id distinct within read is n = (
@@ -29,6 +31,7 @@ room_found promises i r id distinct within read is n = (
       (ap promised_id has.3 ∙ has.4.0 ∙ sym is) in ap (λ m. Some m) (sym (ap (λ (p : Promise). p.length) at) ∙ has.4.1),
 )
 
+-- an id without a promise has no room
 pub room_missing : (promises : List Promise) (id : UnitId) → HasNoPromise id promises → (n : ℕ) → (None ≡ Some n) ↔ HasRoom id n promises
 room_missing promises id none n =
     (λ some. absurd (none-some n some), λ has. absurd (none has.0 has.1 has.2 (ap promised_id has.3 ∙ has.4.0)))
@@ -36,16 +39,20 @@ room_missing promises id none n =
 -- the promise r at this place, of this id
 module _ (promises : List Promise) (i : ℕ) (r : Promise) (id : UnitId) (distinct : HasDistinctPromises promises)
     (within : i < length promises) (read : r ≡ get_or promises i r) (is : r.id ≡ id) where
+  -- a promise removed by its place is one filtered out by its id
   pub removed_is : remove promises i ≡ filter (is_for_other id) promises
   removed_is = remove_is promised_id promises i r id distinct within read is
 
+  -- each promise for the id has the length that was found
   pub length_told : All (λ (p : Promise). p.id ≡ id → r.length ≡ p.length) promises
   length_told k d in_list same =
       sym (ap (λ (p : Promise). p.length) (only_promise promises k i d r distinct in_list within read (same ∙ sym is)))
 
+  -- a removal leaves one promise less
   pub fewer_left : length (remove promises i) + 1 ≡ length promises
   fewer_left = length-remove promises i within
 
+  -- the bytes promised are those of one promise and of the others
   pub less_left : sum_by promised promises ≡ r.length + sum_by promised (remove promises i)
   less_left =
       let total : sum_by promised (remove promises i) + (get_or promises i r).length ≡ sum_by promised promises =

@@ -14,6 +14,7 @@ use Rattle.work_queue.specs.Queue.{HasFree}
 use Rattle.work_queue.specs.declared.placing.Placed.{Placed}
 use Rattle.work_queue.specs.declared.pushing.Candidate.{Candidate}
 
+-- a target that passes the test is any rank
 pub any_is : (target : Target) → is_any target ≡ true → target ≡ aim.Any
 any_is aim.Any test = refl
 any_is (aim.Only rank) test = absurd (false≢true test)
@@ -25,6 +26,7 @@ movable_is p test =
     let parts = and_parts (is_none p.pin) (is_any p.unit.target) test in
     (free_is p.pin parts.0, any_is p.unit.target parts.1)
 
+-- a unit that can be moved passes the test
 pub is_movable : (p : Placed) → IsMovable p → movable p ≡ true
 is_movable p is = and_from (is_none p.pin) (is_any p.unit.target) (rw is.0 refl) (rw is.1 refl)
 
@@ -77,6 +79,7 @@ module _ (units : List Placed) (c : Candidate) (same : Some c ≡ fold pick_to_p
     is_first = λ other q at differs may. leads.is_first other q at differs (is_movable q may);
   }
 
+  -- if a first to push is found, some unit can be moved
   pub some_movable : Any IsMovable units
   some_movable =
       let some = some_may movable candidate goes_first GoesBefore pick_to_push by_prio picks units c leads in
@@ -92,6 +95,7 @@ free_from_push units is first = (
   (ap (λ (r : UnitId × ℕ). r.0) first.has, first.is_movable.0),
 )
 
+-- if none is found, no unit can be moved
 pub none_movable : (units : List Placed) → None ≡ fold pick_to_push None units → Any IsMovable units → ⊥
 none_movable units same some = none_may movable candidate goes_first GoesBefore pick_to_push by_prio picks units (found_so units None same)
     (some.0, some.1, some.2, some.3, is_movable some.1 some.4)

@@ -28,6 +28,7 @@ turn_passes_on : (x y z : ℤ) (k l m : ℕ) → (int_lt x y || (not (int_lt y x
     → (int_lt y z || (not (int_lt z y) && nat_lt m l)) ≡ false → (int_lt x z || (not (int_lt z x) && nat_lt m k)) ≡ false
 turn_passes_on x y z k l m first second = grind (arith, ints, nat_tests)
 
+-- priority and stamp rank the entries of a run
 pub turn_ranks : IsRanking by_turn
 turn_ranks = record {
   not_both = λ a b. turn_not_both a.prio b.prio a.stamp b.stamp;
@@ -45,12 +46,14 @@ runs_alike a b kind target =
 module _ (entries : List Entry) (place end : ℕ) (e : Entry) (order : IsInOrder entries) (within : place < length entries)
     (here : e ≡ get_or entries place e)
     (point : IsPartitionPoint (λ x. runs_before e x ≡ false) (λ x. runs_before e x ≡ true) entries end) where
+  -- a run ends after its place
   pub run_goes_on : place < end
   run_goes_on = elim (cases_lt place end) [
     | inl below ↦ below
     | inr past ↦ absurd (both_ways (runs_before e e) (runs_self e) (rw (sym here) at (point.1 place e past within)))
   ]
 
+  -- the entries within the run are its first and those next to it
   pub in_run : (k : ℕ) (d : Entry) → place ≤ k → k < end → k < length entries → (get_or entries k d ≡ e) ⊎ IsNext e (get_or entries k d)
   in_run k d from below inside = elim (cases_eq k place) [
     | inl same ↦ inl (ap (λ m. get_or entries m d) same ∙ get_or_default entries place d e within ∙ sym here)
@@ -80,6 +83,7 @@ module _ (entries : List Entry) (place end : ℕ) (e : Entry) (order : IsInOrder
         turn_ranks.not_both (get_or entries k d) (get_or entries (end - 1) d) next.turn
   ]
 
+  -- the entries from a place to its end are a run
   pub is_run : (last : Entry) → last ≡ get_or entries (end - 1) last → end ≤ length entries
       → IsRun entries place (record { first = e; last = last; end = end })
   is_run last is whole = record {
@@ -161,6 +165,7 @@ lower_passes_on a b c s t u both first second = by_cases (lower_isnt b a s first
     by_cases (inr x) (inl y) = let e = x.0 in grind (arith, nat_tests)
     by_cases (inr x) (inr y) = let e = x.0 in let f = y.0 in let off = both x.1 y.1 in grind (arith, nat_tests)
 
+-- what suits a rank better ranks the entries
 pub suits_ranks : (rank : Rank) → IsRanking (suits_better rank)
 suits_ranks rank = record {
   not_both =
@@ -174,6 +179,7 @@ turn_back : (x y z : ℤ) (k l m : ℕ) → (int_lt y x || (not (int_lt x y) && 
     → (int_lt z y || (not (int_lt y z) && nat_lt l m)) ≡ false → (int_lt z x || (not (int_lt x z) && nat_lt k m)) ≡ false
 turn_back x y z k l m first second = grind (arith, ints, nat_tests)
 
+-- what moves first ranks the entries
 pub moves_ranks : IsRanking moves_first
 moves_ranks = record {
   not_both = λ a b. turn_ranks.not_both b a;
@@ -188,6 +194,7 @@ run_suits rank types entries place run is k d from below =
     let of = is.alike k d from below in
     (rw (of.kind, of.target) refl, rw of.target (lower_self (class_for rank run.first.target) _ of.not_earlier))
 
+-- the last entry of a run goes first among those to move
 pub run_moves : (entries : List Entry) (place : ℕ) (run : Run) → IsRun entries place run → (k : ℕ) (d : Entry) → place ≤ k → k < run.end
     → (may_move (get_or entries k d) ≡ may_move run.last) × (moves_first (get_or entries k d) run.last ≡ false)
 run_moves entries place run is k d from below =
@@ -198,9 +205,11 @@ run_moves entries place run is k d from below =
     let last_target : run.last.target ≡ run.first.target = rw (sym is.last_is) at last.target in
     (rw (of.target, last_target) refl, of.not_later)
 
+-- the first entry of a run is listed
 pub first_listed : (entries : List Entry) (place : ℕ) (run : Run) → IsRun entries place run → Contains entries run.first
 first_listed entries place run is = let on = is.goes_on in let whole = is.within in (place, omega arith, sym is.first_is)
 
+-- the last entry of a run is listed
 pub last_listed : (entries : List Entry) (place : ℕ) (run : Run) → IsRun entries place run → Contains entries run.last
 last_listed entries place run is = let on = is.goes_on in let whole = is.within in (run.end - 1, omega arith, sym is.last_is)
 
@@ -211,9 +220,11 @@ module _ (entries : List Entry) (place end : ℕ) (z : Entry) (order : IsInOrder
   read : get_or entries place z ≡ get_or entries place (get_or entries place z)
   read = get_or_default entries place z (get_or entries place z) within
 
+  -- a run read at its place ends after it
   pub read_goes_on : place < end
   read_goes_on = run_goes_on entries place end (get_or entries place z) order within read point
 
+  -- the entries read from a place to its end are a run
   pub read_run : end ≤ length entries
       → IsRun entries place (record { first = get_or entries place z; last = get_or entries (end - 1) z; end = end })
   read_run whole =
@@ -227,6 +238,7 @@ came_not_both k l test = grind (arith, nat_tests)
 came_passes_on : (k l m : ℕ) → nat_lt l k ≡ false → nat_lt m l ≡ false → nat_lt m k ≡ false
 came_passes_on k l m first second = grind (arith, nat_tests)
 
+-- what came first ranks the entries
 pub came_ranks : IsRanking came_first
 came_ranks = record {
   not_both = λ a b. came_not_both a.stamp b.stamp;

@@ -6,7 +6,7 @@ use Rattle.std.proofs.lemmas.List.Folds.{find_at}
 use Rattle.std.proofs.lemmas.List.Sums.{fails_before_first, passes_at_first}
 use Rattle.std.proofs.lemmas.Option.{get_or_from_slice_get, none-some, same_Some, slice_get_cases, slice_get_within}
 
--- x stands at this place and passes, and what stands before does not
+-- x is at this place and passes, and what comes before does not
 pub record IsFirst {X : Type 0} (test : X → Bool) (xs : List X) (x : X) : Type 0 where
   pub place : ℕ
   pub here : slice_get xs place ≡ Some x
@@ -15,6 +15,7 @@ pub record IsFirst {X : Type 0} (test : X → Bool) (xs : List X) (x : X) : Type
   pub passes : test x ≡ true
   pub fails : (k : ℕ) (d : X) → k < place → test (get_or xs k d) ≡ false
 
+-- what is found is the first that passes
 pub find_first : {X : Type 0} (test : X → Bool) (xs : List X) (x : X) → find test xs ≡ Some x → IsFirst test xs x
 find_first test xs x found =
     let place = position_or_len test xs in
@@ -30,6 +31,7 @@ find_first test xs x found =
       fails = λ k d before. fails_before_first test xs k d before;
     }
 
+-- if nothing is found, no element passes
 pub find_none : {X : Type 0} (test : X → Bool) (xs : List X) → find test xs ≡ None → All (λ x. test x ≡ false) xs
 find_none test xs none k d within =
     let at : slice_get xs (position_or_len test xs) ≡ None = sym (find_at test xs) ∙ none in
@@ -50,6 +52,7 @@ is_found test (y ∷ xs) (suc place) x at is fails =
     let here = fails zero y (omega arith) refl in
     rw here (is_found test xs place x at is (λ k z before there. fails (suc k) z (omega arith) there))
 
+-- if no element passes, nothing is found
 pub none_found : {X : Type 0} (test : X → Bool) (xs : List X) → ((k : ℕ) (y : X) → slice_get xs k ≡ Some y → test y ≡ false)
     → find test xs ≡ None
 none_found test [] fails = refl

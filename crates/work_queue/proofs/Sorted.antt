@@ -46,10 +46,11 @@ module _ {X : Type 0} (R : X → X → Type 0) (xs : List X) (n : ℕ) (y : X) (
 
 -- an order by a test, which none passes with itself
 module _ {X : Type 0} (before : X → X → Bool) where
+  -- each element goes before all later ones
   abbrev pub InOrder : List X → Type 0
   InOrder xs = AllPairs (λ a b. before a b ≡ true) xs
 
-  -- what stands before an element before the given one is before it too
+  -- what comes before an element before the given one is before it too
   pub parted_at : ((a b c : X) → before a b ≡ true → before b c ≡ true → before a c ≡ true) → (xs : List X) (x : X) → InOrder xs
       → IsPartitionedBy (λ y. before y x) xs
   parted_at trans xs x order i j d le within is = by_cases (cases_eq i j)
@@ -68,6 +69,7 @@ module _ {X : Type 0} (before : X → X → Bool) where
       (λ k d from below. other k d below (point.1 k d from below))
 
   module _ (self : (a : X) → before a a ≡ false) where
+    -- elements in order differ
     pub differ_in_order : (xs : List X) → InOrder xs → AllPairs (λ a b. a ≢ b) xs
     differ_in_order xs order i j d first within same =
         both_ways (before (get_or xs i d) (get_or xs i d)) (self (get_or xs i d)) (rw (sym same) at (order i j d first within))
@@ -83,7 +85,7 @@ module _ {X : Type 0} (before : X → X → Bool) where
 
     module _ (xs : List X) (x : X) (n : ℕ) (order : InOrder xs) (within : n ≤ length xs)
         (point : IsPartitionPoint (λ y. before y x ≡ true) (λ y. before y x ≡ false) xs n) where
-      -- an element of the list stands at its place
+      -- an element of the list is at its place
       pub stands_at : Contains xs x → (n < length xs) × (x ≡ get_or xs n x)
       stands_at there = elim (cases_lt there.0 n) [
         | inl low ↦ absurd (both_ways (before x x) (self x) (rw there.2 at (point.0 there.0 x (omega arith) low)))

@@ -27,31 +27,39 @@ use Rattle.work_queue.specs.declared.indexing.Index.{Index}
 use Rattle.work_queue.specs.declared.placing.Placed.{Placed}
 use Rattle.work_queue.specs.declared.queues.WorkQueue.TheInside.{Inside}
 
+-- stamps split at a place
 pub stamps_cut : (stamps : List ℕ) (place : ℕ) → place < length stamps
     → stamps ≡ take place stamps ++ get_or stamps place 0 ∷ drop (suc place) stamps
 stamps_cut stamps place within = sym (take-append-drop place stamps) ∙ ap (λ x. take place stamps ++ x) (drop_more stamps place 0 within)
     ∙ ap (λ n. take place stamps ++ get_or stamps place 0 ∷ drop n stamps) (add-one place)
 
 module _ (w : Inside) (place key : ℕ) (p : Placed) (id : UnitId) (sound : IsSound w) (at : IsFound w place key p id) where
+  -- the keys before the unit's
   abbrev pub front : List ℕ
   front = take place w.order.items
 
+  -- the keys after the unit's
   abbrev pub back : List ℕ
   back = drop (suc place) w.order.items
 
+  -- the unit, and the keys on either side of it
   pub parts_of : Parts w.slots w.order.items key p front back
   parts_of = parts_at w.slots w.order.items place key p sound.distinct at.within at.key_is at.found
 
+  -- the unit has a stamp
   pub stamp_within : place < length w.index.stamps.items
   stamp_within = omega (arith, at.within, sound.indexed.long, length-units w.slots w.order.items sound.there)
 
+  -- the index is that of the units on either side and of the unit
   pub indexed_parted : IsIndexed (units_at w.slots front ++ p ∷ units_at w.slots back) w.arrivals w.index
   indexed_parted = rw (units_parted w.slots w.order.items key p front back parts_of) at sound.indexed
 
+  -- the stamps are those on either side and the unit's
   pub stamps_parted : w.index.stamps.items ≡ take place w.index.stamps.items ++ get_or w.index.stamps.items place 0
       ∷ drop (suc place) w.index.stamps.items
   stamps_parted = stamps_cut w.index.stamps.items place stamp_within
 
+  -- there are as many stamps before the unit as units
   pub as_long : length (take place w.index.stamps.items) ≡ length (units_at w.slots front)
   as_long =
       let P : ℕ → Type 0 = λ k. IsSome (get w.slots k) in
@@ -60,6 +68,7 @@ module _ (w : Inside) (place key : ℕ) (p : Placed) (id : UnitId) (sound : IsSo
       let c = length-units w.slots front (All-take P place w.order.items sound.there) in
       omega (arith, a, b, c)
 
+  -- a free unit has its entry in the index
   pub entry_found : p.pin ≡ None → Contains w.index.entries.items (entry_of p (get_or w.index.stamps.items place 0))
   entry_found free =
       entry_there (units_at w.slots front) (units_at w.slots back) p _ _ _ w.arrivals w.index indexed_parted stamps_parted as_long free
@@ -68,6 +77,7 @@ module _ (w : Inside) (place key : ℕ) (p : Placed) (id : UnitId) (sound : IsSo
       (take place w.index.stamps.items ++ get_or w.index.stamps.items place 0 ∷ drop (suc place) w.index.stamps.items) w.names
   named_parted = rw (units_parted w.slots w.order.items key p front back parts_of, stamps_parted) at sound.named
 
+  -- the names without the unit's are those of the others
   pub named_after_take : (new : Names) → ((q : UnitId) → stamp_at new q ≡ (if same_unit (id_of p) q then None else stamp_at w.names q))
       → IsNamed (units_at w.slots front ++ units_at w.slots back) (remove w.index.stamps.items place) new
   named_after_take new less =
@@ -121,6 +131,7 @@ module _ (w : Inside) (place key : ℕ) (p : Placed) (id : UnitId) (sound : IsSo
       (others_pinned before after p _ _ _ w.arrivals w.index (indexed_parted w place key p id sound at)
       (stamps_parted w place key p id sound at) (as_long w place key p id sound at) rank pinned)
 
+  -- the index without the unit's entry is that of the others
   pub indexed_after_take : IsIndexed (before ++ after) w.arrivals index
   indexed_after_take =
       let within = stamp_within w place key p id sound at in
@@ -139,13 +150,16 @@ module _ (w : Inside) (place key : ℕ) (p : Placed) (id : UnitId) (sound : IsSo
       let same = only_found w place key p id sound at has.0 has.1 has.2 (ap id_of has.3 ∙ has.4.0) in
       ap (λ (q : Placed). q.pin) (sym same ∙ has.3) ∙ has.4.1
 
+  -- the stamp that is read is the unit's
   pub stamp_is : (stamp : ℕ) → stamp ≡ get_or w.index.stamps.items place stamp → stamp ≡ get_or w.index.stamps.items place 0
   stamp_is stamp read = read ∙ get_or_default w.index.stamps.items place stamp 0 (stamp_within w place key p id sound at)
 
+  -- the entry made of the stamp that is read is the unit's
   pub entry_is : (stamp : ℕ) (e : Entry) → e ≡ entry_of p stamp → stamp ≡ get_or w.index.stamps.items place stamp
       → e ≡ entry_of p (get_or w.index.stamps.items place 0)
   entry_is stamp e is read = is ∙ ap (λ s. entry_of p s) (stamp_is stamp read)
 
+  -- the unit's entry is in the index if the unit is free
   pub entry_listed : (e : Entry) → e ≡ entry_of p (get_or w.index.stamps.items place 0) → p.pin ≡ None → Contains w.index.entries.items e
   entry_listed e is free = rw is (entry_found w place key p id sound at free)
 
@@ -154,11 +168,13 @@ module _ (w : Inside) (place key : ℕ) (p : Placed) (id : UnitId) (sound : IsSo
     pub some : p.pin ≡ None → entry ≡ Some (entry_of p (get_or w.index.stamps.items place 0))
     pub none : (rank : Rank) → p.pin ≡ Some rank → entry ≡ None
 
+  -- an entry that is there if the unit is free says so of it
   pub tells_entry : (stamp : ℕ) (entry : Option Entry) → stamp ≡ get_or w.index.stamps.items place stamp
       → (p.pin ≡ None → entry ≡ Some (entry_of p stamp)) → ((rank : Rank) → p.pin ≡ Some rank → entry ≡ None) → TellsEntry entry
   tells_entry stamp entry read some none =
       record { some = λ free. some free ∙ ap (λ s. Some (entry_of p s)) (stamp_is stamp read); none = none }
 
+  -- an entry that is there is in the index
   pub entry_if_free : (entry : Option Entry) → TellsEntry entry → IfSome entry (λ e. Contains w.index.entries.items e)
   entry_if_free entry tells = by_pin p.pin refl
     where

@@ -65,9 +65,11 @@ module _ (w : Inside) (new : Slab Placed) (place key : ℕ) (p : Placed) (id : U
       let P : Placed → Type 0 = λ q. id_of q ≢ other in
       All-filter (has_other_id id) P old apart
 
+  -- the unit's bytes are within the charge
   pub size_within : size_of p ≤ w.charge
   size_within = omega (arith, sizes, sound.charge)
 
+  -- a queue is sound after a unit is taken
   pub sound_taken : (v : Inside) → v.slots ≡ new → v.order.items ≡ remove w.order.items place → v.charge ≡ w.charge - size_of p
       → v.limit ≡ w.limit → v.rooms ≡ w.rooms → v.common ≡ w.common → slab_len new + 1 ≡ slab_len w.slots → new.capacity ≡ w.slots.capacity
       → length v.order.items + 1 ≡ length w.order.items → v.order.capacity ≡ w.order.capacity → v.arrivals ≡ w.arrivals
@@ -107,6 +109,7 @@ module _ (w : Inside) (new : Slab Placed) (place key : ℕ) (p : Placed) (id : U
         names_room = rw rooms (omega (arith, loses.room, sound.names_room));
       }
 
+  -- the queue after a unit is taken, as its model says
   pub view_taken : (v : Inside) → v.slots ≡ new → v.order.items ≡ remove w.order.items place → v.arrivals ≡ w.arrivals → v.limit ≡ w.limit
       → v.rooms ≡ w.rooms → v.common ≡ w.common → queue_of v ≡ without (queue_of w) id
   view_taken v slots order arrivals limit rooms common = rw (slots, order, units, arrivals, limit, rooms, common) refl

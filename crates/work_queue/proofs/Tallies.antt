@@ -76,6 +76,7 @@ module _ (kind : WorkType) (entries : List Entry) where
   abbrev is_kind : Entry → Bool
   is_kind e = e.kind.0 == kind.0
 
+  -- what is counted of the first `k` entries
   abbrev pub upto : ℕ → Info
   upto k = info_of_prios (prios_in kind (take k entries))
 
@@ -143,7 +144,7 @@ high_stays : (x y t : ℤ) (k l : ℕ) → (int_lt y x || (not (int_lt x y) && n
     → not (int_lt x t) ≡ true
 high_stays x y t k l first high = grind (arith, ints, nat_tests)
 
--- what stands before an entry that is as high is as high
+-- what comes before an entry that is as high is as high
 pub parted_high : (entries : List Entry) (first : Entry) → IsInOrder entries → IsPartitionedBy (λ x. as_high first x) entries
 parted_high entries first order i j d le within is = elim (cases_eq i j) [
   | inl same ↦ rw same is
@@ -177,6 +178,7 @@ module _ (kind : WorkType) (entries : List Entry) (place : ℕ) (run : Run) (is 
       → as_high run.first (get_or entries k run.first) ≡ not (int_lt (get_or entries k run.first).prio run.first.prio)
   high_at k from below = let of = is.alike k run.first from below in high_in_run run.first (get_or entries k run.first) of.kind of.target
 
+  -- the first entry of a run has its highest priority
   pub first_high : as_high run.first (get_or entries place run.first) ≡ true
   first_high = high_at place (omega arith) is.goes_on ∙ rw (sym is.first_is) (not_self run.first.prio)
 
@@ -205,6 +207,7 @@ module _ (kind : WorkType) (entries : List Entry) (place : ℕ) (run : Run) (is 
       ap (λ k. upto kind entries k) e ∙ two ∙ ap (λ x. run_with (upto kind entries place) x t (suc m)) f
       ∙ ap (λ x. run_with (upto kind entries place) (run.end - place) t x) g
 
+  -- what is counted up to the end of a run, by how many have its highest priority
   pub run_counted_to : (point : ℕ) → IsPartitionPoint (λ x. as_high run.first x ≡ true) (λ x. as_high run.first x ≡ false) entries point
       → (top : ℕ) → ((point ≤ run.end) × (top ≡ point)) ⊎ ((run.end ≤ point) × (top ≡ run.end))
       → upto kind entries run.end ≡ run_with (upto kind entries place) (run.end - place) run.first.prio (top - place)
@@ -269,6 +272,7 @@ info_is (p ∷ ps) n c t long there below count =
     let is : m ≡ t = anti t m low high in
     same_told (length (p ∷ ps)) n m t (count_by (int_le m) (p ∷ ps)) c long is (ap (λ x. count_by (int_le x) (p ∷ ps)) is ∙ count)
 
+-- a count is the same in any order
 pub info_permuted : (ps qs : List ℤ) → IsPermutation ps qs → info_of_prios qs ≡ info_of_prios ps
 info_permuted [] [] same = refl
 info_permuted [] (q ∷ qs) same = absurd (let long = length_permutation [] (q ∷ qs) same in omega (arith, long))

@@ -17,6 +17,7 @@ use Rattle.work_queue.specs.declared.pushing.Candidate.{Candidate}
 use Rattle.work_queue.specs.declared.rating.Rated.{Rated}
 
 module _ (rank : Rank) (types : Option (List WorkType)) (units : List Placed) where
+  -- if there is a best, some unit is offered
   pub best_offered : (id : UnitId) → IsBest rank types units id → Any (IsOffered rank types) units
   best_offered id is = (
     is.place,
@@ -39,13 +40,16 @@ module _ (rank : Rank) (types : Option (List WorkType)) (units : List Placed) wh
   none_found None same = (λ e some. none_offered rank types units same some, λ none. refl)
   none_found (Some r) same = (λ e. absurd (none-some r.id (sym e)), λ none. absurd (none (some_offered rank types units r same)))
 
+  -- the walk finds a unit exactly if it is the best that is offered
   pub best_walk : (id : UnitId) → (best_of rank types units ≡ Some id) ↔ IsBest rank types units id
   best_walk = best_found (best_from rank types None units) refl
 
+  -- the walk finds nothing exactly if no unit is offered
   pub no_best : (best_of rank types units ≡ None) ↔ ¬ Any (IsOffered rank types) units
   no_best = none_found (best_from rank types None units) refl
 
 module _ (units : List Placed) where
+  -- if there is a first to push, some unit can be moved
   pub push_movable : (is : UnitId × ℕ) → IsFirstToPush units is → Any IsMovable units
   push_movable is first = (
     first.place,
@@ -70,13 +74,16 @@ module _ (units : List Placed) where
   none_pushed None same = (λ e some. none_movable units same some, λ none. refl)
   none_pushed (Some c) same = (λ e. absurd (none-some (c.id, c.length) (sym e)), λ none. absurd (none (some_movable units c same)))
 
+  -- the walk finds a unit exactly if it is the first to push
   pub push_walk : (is : UnitId × ℕ) → (first_to_push_of units ≡ Some is) ↔ IsFirstToPush units is
   push_walk = push_found (fold pick_to_push None units) refl
 
+  -- the walk finds nothing exactly if no unit can be moved
   pub no_push : (first_to_push_of units ≡ None) ↔ ¬ Any IsMovable units
   no_push = none_pushed (fold pick_to_push None units) refl
 
 module _ (asked : List (Rank × Option (List WorkType))) (units : List Placed) where
+  -- if there is a first fit, some unit suits one that asks
   pub fit_asked : (id : UnitId) → IsFirstFit asked units id → Any (IsAsked asked) units
   fit_asked id is = (
     is.place,
@@ -97,8 +104,10 @@ module _ (asked : List (Rank × Option (List WorkType))) (units : List Placed) w
   none_fit None same = (λ e some. none_asked asked units same some, λ none. refl)
   none_fit (Some first) same = (λ e. absurd (none-some first (sym e)), λ none. absurd (none (some_asked asked units first same)))
 
+  -- the walk finds a unit exactly if it is the first fit
   pub fit_walk : (id : UnitId) → (first_fit asked units ≡ Some id) ↔ IsFirstFit asked units id
   fit_walk = fit_found (first_fit asked units) refl
 
+  -- no fit is found exactly if no unit suits a rank that asked
   pub no_fit : (first_fit asked units ≡ None) ↔ ¬ Any (IsAsked asked) units
   no_fit = none_fit (first_fit asked units) refl

@@ -13,7 +13,7 @@ use Rattle.work_queue.specs.declared.placing.Placed.{Placed}
 abbrev pub IsAsked : List (Rank × Option (List WorkType)) → Placed → Type 0
 IsAsked asked p = (p.pin ≡ None) × Any (λ (a : Rank × Option (List WorkType)). Permits a.0 a.1 p.unit.kind p.unit.target) asked
 
--- the unit of this id stands at some place and is asked, and no unit before it is
+-- the unit of this id is at some place and is asked, and no unit before it is
 pub record IsFirstFit (asked : List (Rank × Option (List WorkType))) (units : List Placed) (id : UnitId) : Type 0 where
   pub place : ℕ
   pub unit : Placed

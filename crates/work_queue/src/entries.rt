@@ -86,7 +86,7 @@ pub(crate) fn turn_comes_first(a: &Entry, b: &Entry) -> bool
     b.prio < a.prio || (!(a.prio < b.prio) && a.stamp < b.stamp)
 }
 
-// `a` stands before `b` in the index.
+// `a` comes before `b` in the index.
 pub(crate) fn comes_before(a: &Entry, b: &Entry) -> bool
     ensures { result ≡ goes_before a.now b.now }
 {

@@ -20,7 +20,7 @@ pub struct Index {
     pub(crate) stamps: Parted<u64>,
 }
 
-// How many entries stand before this one.
+// How many entries come before this one.
 fn place_for(entries: &VecDeque<Entry>, entry: &Entry) -> usize
     requires { IsInOrder entries.now.items }
     ensures within { result ≤ length entries.now.items }
@@ -29,7 +29,7 @@ fn place_for(entries: &VecDeque<Entry>, entry: &Entry) -> usize
     entries.partition_point(|x| comes_before(x, entry))
 }
 
-// Entries of one type and target, which stand side by side: the first, the last, and the place after that.
+// Entries of one type and target, which are side by side: the first, the last, and the place after that.
 #[derive(Clone, Copy)]
 pub struct Run {
     pub first: Entry,

@@ -9,9 +9,9 @@ ghost use Rattle.work_queue.specs.Fits.{IsAsked, IsFirstFit, first_fit};
 ghost use Rattle.work_queue.specs.Push.{IsFirstToPush, IsMovable, first_to_push_of};
 ghost use Rattle.work_queue.specs.declared.placing.Placed.{Placed};
 
-/// Of each list of units, what going over the list gives (`best_of`, `first_to_push_of`, `first_fit`) is the one unit
-/// that comes first (`IsBest`, `IsFirstToPush`, `IsFirstFit`), and it gives `None` exactly when no unit is offered
-/// (`IsOffered`), may be pushed (`IsMovable`) or is asked (`IsAsked`).
+/// What going over a list of units gives (`best_of`, `first_to_push_of`, `first_fit`) is the one unit that comes
+/// first (`IsBest`, `IsFirstToPush`, `IsFirstFit`). It gives `None` exactly when no unit is offered (`IsOffered`),
+/// may be pushed (`IsMovable`) or is asked (`IsAsked`).
 pub fn queue_laws()
     ensures best { (rank : Rank) (types : Option (List WorkType)) (units : List Placed) (id : UnitId) →
         (best_of rank types units ≡ Some id) ↔ IsBest rank types units id }

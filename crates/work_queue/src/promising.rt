@@ -11,10 +11,10 @@ use crate::queues::{AddFault, WorkQueue};
 use adlb_unit::{Unit, UnitId};
 
 impl WorkQueue {
-    /// Promises room of `n` bytes to the unit of this id, which is neither here nor promised room (`with_promise`), and
-    /// makes all growth that its arrival needs. At a refusal the queue is as it was: it gives `AddFault::Full` exactly
-    /// if `n` bytes more would go beyond the limit (`Exceeds`), whether there is memory or not, otherwise
-    /// `AddFault::Memory`.
+    /// Promises room of `n` bytes to the unit of this id, which is neither here nor promised room (`with_promise`),
+    /// and makes all growth that its arrival needs. At a refusal the queue is as it was. The fault is
+    /// `AddFault::Full` exactly if `n` bytes more would go beyond the limit (`Exceeds`), whether there is memory or
+    /// not, otherwise `AddFault::Memory`.
     pub fn promise(&mut self, id: UnitId, n: u32) -> Result<(), AddFault>
         requires new { HasNoUnit id self.old.units }
         requires unpromised { HasNoPromise id self.old.promises }
@@ -45,7 +45,7 @@ impl WorkQueue {
         Ok(())
     }
 
-    /// The promised unit comes: it stands last, free, and its promise is gone (`with_arrival`). As much room
+    /// The promised unit comes: it comes last, free, and its promise is gone (`with_arrival`). As much room
     /// as its body has bytes was promised to it.
     pub fn arrive(&mut self, unit: Unit)
         requires promised { HasRoom unit.id (length unit.body) self.old.promises }

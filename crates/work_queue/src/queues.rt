@@ -34,9 +34,9 @@ pub enum AddFault {
     Memory,
 }
 
-/// The units of one server in arrival order, each with its pin, beside the room that is promised to units on
-/// their way and the bytes of common parts, all within a limit of bytes. Contracts see it as a `Queue` of
-/// `specs/Queue.antt`. Only `add` and `promise` take memory.
+/// The units of one server in arrival order, each with its pin. Beside them are the room that is promised to
+/// units on their way and the bytes of common parts, all within a limit of bytes. Contracts see it as a `Queue`
+/// of `specs/Queue.antt`. Only `add` and `promise` take memory.
 #[derive(Drop)]
 pub struct WorkQueue {
     // The units, each under a key that it keeps as long as it stays.
@@ -87,9 +87,9 @@ impl WorkQueue {
     }
 
     /// The bytes that the bodies of the queue's units, its promises and its common parts take together
-    /// (`charge_of`). They are never more than the limit. Besides, it tells what is so of each queue: no two
-    /// units have the same id, each body has fewer than 2^32 bytes, no two promises are of the same id, and no
-    /// unit has the id of a promise.
+    /// (`charge_of`). They are never more than the limit. Besides, it says what is so of each queue. No two
+    /// units have the same id, nor do two promises, and no unit has the id of a promise. Each body has fewer
+    /// than 2^32 bytes.
     pub fn charge(&self) -> u64
         ensures exact { result ≡ charge_of self.now }
         ensures within { result ≤ self.now.limit }
@@ -109,8 +109,9 @@ impl WorkQueue {
     }
 
     /// Puts a free unit last (`with_unit`). Its id is new to the queue's units and promises, and its body has at most
-    /// 2^20 bytes. At a refusal the queue is as it was, and the unit comes back: with `AddFault::Full` exactly if the
-    /// body would go beyond the limit (`Overfills`), whether there is memory or not, otherwise with `AddFault::Memory`.
+    /// 2^20 bytes. At a refusal the queue is as it was, and the unit comes back. The fault is `AddFault::Full`
+    /// exactly if the body would go beyond the limit (`Overfills`), whether there is memory or not, otherwise
+    /// `AddFault::Memory`.
     pub fn add(&mut self, unit: Unit) -> Result<(), (Unit, AddFault)>
         requires new { All (λ p. id_of p ≢ unit.id) self.old.units }
         requires unpromised { All (λ (p : Promise). p.id ≢ unit.id) self.old.promises }
@@ -148,9 +149,10 @@ impl WorkQueue {
         Ok(())
     }
 
-    /// The best free unit that is permitted to the rank (`IsBest`): one for this rank alone comes before one
-    /// for this rank before others, then one for any, then one for another rank before this one; of these the
-    /// higher priority, then the earlier arrival. `None` exactly when no free unit is permitted (`IsOffered`).
+    /// The best free unit that is permitted to the rank (`IsBest`). First comes one for this rank alone, then
+    /// for this rank before others, then for any, then for another rank before this one. Of these it is the one
+    /// of higher priority, then of earlier arrival. `None` exactly when no free unit is permitted
+    /// (`IsOffered`).
     pub fn best(&self, rank: Rank, types: &Types) -> Option<UnitId>
         ensures best { IfSome result (IsBest rank types.now self.now.units) }
         ensures some { IsSome result ↔ Any (IsOffered rank types.now) self.now.units }

@@ -23,5 +23,6 @@ abbrev pub first_open : Option Call → List Said → Option Call
 first_open pending [] = pending
 first_open pending (s ∷ more) = Some s.call
 
+-- the call that a ledger has begun after a transcript
 abbrev pub begun_in : Config → List Entry → List Said → Option Call
 begun_in config ledger said = first_open (pending_in (after_all (start config) ledger)) (drop (length said) (calls config ledger zeroth))

@@ -8,6 +8,7 @@ use Rattle.core_inline.specs.inside.Begun.{begun_in}
 use Rattle.core_inline.specs.Inline.{IsInline, Run}
 use Rattle.core_inline.specs.inside.Pairs.{IsReady, is_ended, rank_in, server_in}
 
+-- the run of its fields
 abbrev pub run_of : Inside → Run
 run_of i = record {
   config = i.world.world.config;

@@ -28,9 +28,11 @@ use Rattle.core_inline.specs.Left.{IsLeft}
 abbrev pub first_server : Server
 first_server = record { 0 = 0 }
 
+-- the only rank
 abbrev pub rank_in : Seen → ClientModel
 rank_in w = client_of w.world zeroth
 
+-- the only server
 abbrev pub server_in : Seen → ServerModel
 server_in w = pool_of w.world first_server
 
@@ -42,9 +44,11 @@ is_ended s = s.kept.shut && slice_index_or s.kept.finished 0 false
 abbrev pub with_call : List Said → Call → Answer → List Said
 with_call said call answer = said ++ record { call = call; answer = answer } ∷ []
 
+-- the only rank as an actor
 abbrev pub by_rank : Actor
 by_rank = by.Rank zeroth
 
+-- the only server as an actor
 abbrev pub by_server : Actor
 by_server = by.Server first_server
 
@@ -52,6 +56,7 @@ by_server = by.Server first_server
 abbrev pub asked : World → List Letter
 asked w = under_way w by_rank by_server
 
+-- the letters on their way to the rank
 abbrev pub told : World → List Letter
 told w = under_way w by_server by_rank
 
@@ -97,8 +102,8 @@ pub record IsAnswered (said : List Said) (call : Call) (answer : Answer) (w : Se
   pub ended : is_ended (server_in w) ≡ is_finish call
   pub ready : is_finish call ≡ false → IsReady w
 
--- The call failed: what the rank has heard is as before, the ledger has of the call what was entered, and a stamp that was too long
--- is past the last one.
+-- The call failed: what the rank has heard is as before, and the ledger has of the call what was entered. A stamp that was too long is past
+-- the last one.
 pub record IsFailed (said : List Said) (call : Call) (trouble : Trouble) (w : Seen) : Type 0 where
   pub kept : take (length said) (rank_in w).transcript ≡ said
   pub within : length said ≤ length (rank_in w).transcript

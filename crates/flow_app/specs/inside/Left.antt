@@ -15,13 +15,16 @@ abbrev pub parts_in : ℕ → Option (Bor (List ℕ)) → List (List ℕ)
 parts_in mark None = []
 parts_in mark (Some rest) = slice_split (is_mark mark) rest.now
 
+-- the bytes that are left, and one for each end
 abbrev pub room_in : Option (Bor (List ℕ)) → ℕ
 room_in None = 0
 room_in (Some rest) = length rest.now + 1
 
+-- the parts that are left
 abbrev pub parts_left : Parts → List (List ℕ)
 parts_left p = parts_in p.mark p.rest
 
+-- the bytes that the parts have left
 abbrev pub room_left : Parts → ℕ
 room_left p = room_in p.rest
 
@@ -36,14 +39,16 @@ abbrev pub its_definition : Option Named → Option Definition
 its_definition None = None
 its_definition (Some n) = Some n.definition
 
--- its name as it stands in the line is the name that it defines
+-- its name as it is in the line is the name that it defines
 abbrev pub IsNamed : Named → Type 0
 IsNamed n = n.name.now ≡ name_of n.definition
 
+-- if there is a definition, its name is its own
 abbrev pub IsNamedIfAny : Option Named → Type 0
 IsNamedIfAny None = ⊤
 IsNamedIfAny (Some n) = IsNamed n
 
+-- if the line defines, its name is its own
 abbrev pub IsNamedLine : Line → Type 0
 IsNamedLine (code.Defines n) = IsNamed n
 IsNamedLine line = ⊤

@@ -9,6 +9,7 @@ pub record IsInside (n : ℕ) (asked : Inputs) : Type 0 where
   pub left : (i : ℕ) → asked.left ≡ Some i → i < n
   pub right : (i : ℕ) → asked.right ≡ Some i → i < n
 
+-- all inputs are numbers below n
 abbrev pub AreInside : ℕ → List Inputs → Type 0
 AreInside n inputs = All (IsInside n) inputs
 

@@ -19,20 +19,25 @@ abbrev pub lines_in : Option (Bor (List ℕ)) → List (List ℕ)
 lines_in None = []
 lines_in (Some rest) = lines rest.now
 
+-- the bytes that are left
 abbrev pub bytes_in : Option (Bor (List ℕ)) → ℕ
 bytes_in None = 0
 bytes_in (Some rest) = length rest.now
 
+-- the bytes that are left, and one for each end
 abbrev pub ends_in : Option (Bor (List ℕ)) → ℕ
 ends_in None = 0
 ends_in (Some rest) = length rest.now + 1
 
+-- the lines that are left
 abbrev pub lines_left : Lines → List (List ℕ)
 lines_left l = lines_in l.rest
 
+-- the bytes that the lines have left
 abbrev pub bytes_left : Lines → ℕ
 bytes_left l = bytes_in l.rest
 
+-- the bytes that the lines have left, and one for each end
 abbrev pub ends_left : Lines → ℕ
 ends_left l = ends_in l.rest
 

@@ -21,6 +21,7 @@ abbrev pub is_some_batch : Option OpenBatch → Bool
 is_some_batch None = false
 is_some_batch (Some b) = true
 
+-- a batch is open
 abbrev pub is_open : Reading → Bool
 is_open r = is_some_batch r.current
 
@@ -29,6 +30,7 @@ abbrev pub count_current : Option OpenBatch → ℕ
 count_current None = 0
 count_current (Some b) = length b.items.items + 1
 
+-- how many jobs were read
 abbrev pub count : Reading → ℕ
 count r = length r.jobs.items + count_current r.current
 

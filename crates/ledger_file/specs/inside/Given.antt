@@ -8,6 +8,7 @@ use Rattle.ledger_file.specs.declared.fields.Field.{Field}
 use Rattle.ledger_file.specs.declared.fields.Field.TheVariants as given
 use Rattle.ledger_file.specs.Fields.{Field as Spelt, u32, u64, i32, id, aim, rank_or_none, prio_or_none, wanted, body, told, word}
 
+-- a field of the code, as one of a line
 abbrev pub field_of : Field → Spelt
 field_of (given.Short n) = u32 n
 field_of (given.Number n) = u64 n
@@ -20,6 +21,7 @@ field_of (given.Types t) = wanted t.now
 field_of (given.Bytes b) = body b.now
 field_of (given.End e) = told e
 
+-- fields of the code, as those of a line
 abbrev pub fields_of : List Field → List Spelt
 fields_of fs = map field_of fs
 
@@ -43,8 +45,10 @@ heads (of.Withdrawn server unit) = 1
 heads of.Exhausted = 0
 heads _ = 2
 
+-- the first fields of an entry, which say whom it is about
 abbrev pub who : Entry → List Spelt
 who e = take (heads e) (row e).1
 
+-- the other fields of an entry
 abbrev pub what : Entry → List Spelt
 what e = drop (heads e) (row e).1

@@ -42,8 +42,10 @@ all_names =
     name.CommonFetched ∷ name.Promised ∷ name.Left ∷ name.Arrived ∷ name.Withdrawn ∷ name.Counting ∷ name.Counted ∷ name.Done ∷
     name.Exhausted ∷ name.Over ∷ name.Finished ∷ []
 
+-- the first of these names that is the word
 abbrev pub name_in : List Name → List ℕ → Option Name
 name_in names word = find (λ n. bytes_eq (name_word n) word) names
 
+-- the name that is the word
 unfoldable pub name_of : List ℕ → Option Name
 name_of word = name_in all_names word

@@ -13,10 +13,12 @@ abbrev pub IsLine : List ℕ → ℕ → Line → List ℕ → Type 0
 IsLine bytes count (next.Entry e) after = IsEntry e × (bytes ≡ line (row e) ++ after)
 IsLine bytes count next.Last after = bytes ≡ line (last_row count) ++ after
 
+-- why there is no line
 abbrev pub IsNoLine : List ℕ → ℕ → LineFault → Type 0
 IsNoLine bytes count fault.Memory = ⊤
 IsNoLine bytes count fault.Bad = (BeginsWithEntry bytes → ⊥) × (BeginsWithEnd count bytes → ⊥)
 
+-- what the next line is
 abbrev pub IsNext : List ℕ → ℕ → Result (Line × Bor (List ℕ)) LineFault → Type 0
 IsNext bytes count (Ok x) = IsLine bytes count x.0 x.1.now
 IsNext bytes count (Err f) = IsNoLine bytes count f

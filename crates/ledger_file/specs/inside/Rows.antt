@@ -13,8 +13,8 @@ use Rattle.ledger_file.specs.inside.Reading.{onward, next, value, whole, with_ca
 use Rattle.ledger_file.specs.inside.Reading.{unit_of, batch_of, length_in, number_in, pair_in, prio_in, target_in, answer_in, top_in}
 use Rattle.ledger_file.specs.inside.Reading.{types_in, bytes_in, end_in}
 
--- the entries of names with fields of the same kinds: a call; a call and the wanted types; a server and an id; a server, whom it gives
--- to, and an id
+-- The entries of names with fields of the same kinds. They are a call; a call and the wanted types; a server and an id; a server, whom it
+-- gives to, and an id.
 abbrev pub call_entry : Name → Rank → ℕ → Entry
 call_entry name.Rejected rank call = of.Rejected rank call
 call_entry name.Closing rank call = of.Closing rank call
@@ -22,10 +22,12 @@ call_entry name.NoCurrent rank call = of.NoCurrent rank call
 call_entry name.Done rank call = of.Done rank call
 call_entry _ rank call = of.Finished rank call
 
+-- an entry of a call and types
 abbrev pub wish_entry : Name → Rank → ℕ → Option (List WorkType) → Entry
 wish_entry name.Asked rank call types = of.Asked rank call types
 wish_entry _ rank call types = of.Tried rank call types
 
+-- an entry of a server and an id
 abbrev pub id_entry : Name → Server → ℕ × ℕ → Entry
 id_entry name.Accepted server x = of.Accepted server (unit_of x)
 id_entry name.Kept server x = of.Kept server (batch_of x)
@@ -34,6 +36,7 @@ id_entry name.Freed server x = of.Freed server (batch_of x)
 id_entry name.Arrived server x = of.Arrived server (unit_of x)
 id_entry _ server x = of.Withdrawn server (unit_of x)
 
+-- an entry of a server, whom it gives to, and an id
 abbrev pub way_entry : Name → Server → ℕ → ℕ × ℕ → Entry
 way_entry name.Fetched server to x = of.Fetched server (rank_of to) (unit_of x)
 way_entry name.CommonFetched server to x = of.CommonFetched server (rank_of to) (batch_of x)
@@ -84,6 +87,7 @@ abbrev pub named : List (List ℕ) → Option Name → Option Entry
 named fields None = None
 named fields (Some n) = onward whole (read_row n fields)
 
+-- the entry of the words of a line
 unfoldable pub read_entry : List (List ℕ) → Option Entry
 read_entry [] = None
 read_entry (w ∷ fields) = named fields (name_of w)
@@ -92,6 +96,7 @@ read_entry (w ∷ fields) = named fields (name_of w)
 abbrev pub read_numbers : List (List ℕ) → Option ((ℕ × ℕ × ℕ) × List (List ℕ))
 read_numbers = next length_in (λ ranks. next length_in (λ servers. next number_in (λ limit. value (ranks, servers, limit))))
 
+-- the sizes of the first line
 unfoldable pub read_sizes : List (List ℕ) → Option (ℕ × ℕ × ℕ)
 read_sizes [] = None
 read_sizes (w ∷ ws) = if bytes_eq w (codes "ledger") then onward whole (read_numbers ws) else None

@@ -14,6 +14,7 @@ abbrev pub listed : Option (List WorkType) → List WorkType
 listed None = []
 listed (Some kinds) = take 16 kinds
 
+-- the types that an entry lists
 abbrev pub kinds_of : Entry → List WorkType
 kinds_of (enters.Asked rank call types) = listed types
 kinds_of (enters.Tried rank call types) = listed types
@@ -25,9 +26,11 @@ body_of (enters.Putting rank call kind prio target answer body) = body
 body_of (enters.Keeping rank call common) = common
 body_of _ = []
 
+-- a type as bytes
 abbrev pub kind_code : WorkType → List ℕ
 kind_code kind = groups 5 kind.0
 
+-- a type fits 32 bits
 abbrev pub kind_fits : WorkType → Type 0
 kind_fits kind = kind.0 < 2 ^ 32
 
@@ -40,10 +43,11 @@ pub record IsKept (e : Entry) : Type 0 where
   pub row : RowFits (row_of e)
   pub kinds : All kind_fits (kinds_of e)
 
--- the same of an entry with its stamp, which stands before it
+-- so for an entry with its stamp, which comes before it
 unfoldable pub stamped_before : Stamped → List ℕ → List ℕ
 stamped_before s rest = groups 10 s.stamp ++ entry_before s.entry rest
 
+-- an entry with its stamp that can be read back
 pub record IsKeptStamped (s : Stamped) : Type 0 where
   pub stamp : s.stamp < 2 ^ 64
   pub entry : IsKept s.entry

@@ -20,5 +20,6 @@ unfoldable pub unsigned : ℤ → ℕ
 unsigned (pos n) = 2 * n
 unsigned (negsuc n) = 2 * n + 1
 
+-- the signed number of an unsigned one
 unfoldable pub signed : ℕ → ℤ
 signed n = if n % 2 == 0 then pos (n / 2) else negsuc (n / 2)

@@ -11,6 +11,7 @@ use Rattle.bag_ledger.specs.declared.entries.Entry.TheVariants as enters
 use Rattle.packed_ledger.specs.declared.rows.Row.{Row}
 use Rattle.packed_ledger.specs.inside.Numbers.{unsigned}
 
+-- a row of few numbers
 abbrev pub small : ℕ → ℕ → ℕ → ℕ → ℕ → ℕ → Row
 small head first second third call number = record {
   head = head;
@@ -24,6 +25,7 @@ small head first second third call number = record {
   amount = 0;
 }
 
+-- the head of a put, which says its kinds of target and answer rank
 abbrev pub put_head : Target → Option Rank → ℕ
 put_head targets.Any None = 0
 put_head (targets.Only r) None = 1
@@ -32,35 +34,43 @@ put_head targets.Any (Some a) = 3
 put_head (targets.Only r) (Some a) = 4
 put_head (targets.Soft r) (Some a) = 5
 
+-- the rank that a target names, or 0
 abbrev pub aim : Target → ℕ
 aim targets.Any = 0
 aim (targets.Only r) = r.0
 aim (targets.Soft r) = r.0
 
+-- a rank, or 0 without one
 abbrev pub rank_or_0 : Option Rank → ℕ
 rank_or_0 None = 0
 rank_or_0 (Some r) = r.0
 
+-- a priority, or 0 without one
 abbrev pub top_or_0 : Option ℤ → ℕ
 top_or_0 None = 0
 top_or_0 (Some prio) = unsigned prio
 
+-- the head of a count
 abbrev pub top_head : Option ℤ → ℕ
 top_head None = 33
 top_head (Some prio) = 34
 
+-- the head of an end
 abbrev pub end_head : End → ℕ
 end_head ends.NoMoreWork = 16
 end_head ends.Exhausted = 17
 
+-- the head of a request, which says whether types are listed
 abbrev pub wanted_head : ℕ → Option (List WorkType) → ℕ
 wanted_head head None = head
 wanted_head head (Some kinds) = head + 1
 
+-- how many types are listed
 abbrev pub kinds_in : Option (List WorkType) → ℕ
 kinds_in None = 0
 kinds_in (Some kinds) = length kinds
 
+-- the numbers of an entry
 abbrev pub row_of : Entry → Row
 row_of (enters.Putting rank call kind prio target answer body) = record {
   head = put_head target answer;

@@ -11,7 +11,7 @@ use Rattle.sudoku_rules.specs.inside.Planes.{has}
 abbrev pub is_blank : Cells → ℕ → Bool
 is_blank g k = nat_lt k (length g) && (slice_index g k == 0)
 
--- the digit x + 1 can stand in the cell
+-- the digit x + 1 can go into the cell
 abbrev pub can_stand : ℕ → Cells → ℕ → ℕ → Bool
 can_stand m g x k = is_blank g k && not (used m g k (x + 1))
 
@@ -31,7 +31,7 @@ pub record AreSeen (m : ℕ) {S : ℕ} (g : Cells) (n : ℕ) (seen : Seen S) : T
   pub blank : (k : ℕ) → has seen.blank k ≡ (nat_lt k n && (slice_index g k == 0))
   pub clash : seen.clash ≡ any_below n (λ i. any_below i (λ j. clash m g i j))
 
--- the digit x + 1 is put at a cell: it can stand no longer where a cell shares with that one
+-- the digit x + 1 is put at a cell: it can go no longer where a cell shares with that one
 pub record IsPlaced (m : ℕ) {S C : ℕ} (before after : Board S C) (cell x : ℕ) : Type 0 where
   pub cells : after.cells ≡ slice_set before.cells cell (x + 1)
   pub long : length after.options ≡ length before.options
@@ -40,14 +40,14 @@ pub record IsPlaced (m : ℕ) {S C : ℕ} (before after : Board S C) (cell x : �
       (has (slice_index before.options x) k && not (nat_lt k (size m) && shares m k cell))
   pub others : (y : ℕ) → (y ≡ x → ⊥) → slice_index after.options y ≡ slice_index before.options y
 
--- no digit can stand at a cell any more
+-- no digit can go to a cell any more
 pub record IsLeft {S C : ℕ} (before after : Board S C) (cell : ℕ) : Type 0 where
   pub cells : after.cells ≡ before.cells
   pub blank : after.blank ≡ before.blank
   pub long : length after.options ≡ length before.options
   pub options : (y k : ℕ) → has (slice_index after.options y) k ≡ (has (slice_index before.options y) k && not (k == cell))
 
--- at each of these cells one digit at most can stand
+-- each of these cells can take one digit at most
 abbrev pub AreSingle : ℕ → List ℕ → Type 0
 AreSingle cells options =
     (k x y : ℕ) → has cells k ≡ true → has (slice_index options x) k ≡ true → has (slice_index options y) k ≡ true → x ≡ y

@@ -5,6 +5,7 @@ use Rattle.sudoku_law.specs.Grid.{Cells, IsGrid}
 use Rattle.sudoku_rules.specs.declared.grid.Form.{Form}
 use Rattle.sudoku_rules.specs.declared.grid.Form.TheVariants.{Four, Nine, Sixteen}
 
+-- the cells of a form
 abbrev pub cells_of : Form → Cells
 cells_of (Four cells) = cells
 cells_of (Nine cells) = cells
@@ -16,6 +17,7 @@ IsForm (Four cells) = IsGrid 2 cells
 IsForm (Nine cells) = IsGrid 3 cells
 IsForm (Sixteen cells) = IsGrid 4 cells
 
+-- the form of cells, by their number
 abbrev pub form_of : Cells → Form
 form_of g = if length g == 16 then Four g else if length g == 81 then Nine g else Sixteen g
 

@@ -7,7 +7,7 @@ use Rattle.sudoku_rules.specs.declared.marked.Marked.{Marked}
 use Rattle.sudoku_rules.specs.declared.marked.Marks.{Marks}
 use Rattle.sudoku_rules.specs.inside.Masks.{AreMasks}
 
--- bit k of a row's mask is set exactly where its cell in column k is blank, for the first n columns
+-- bit k of a row's mask is set exactly if its cell in column k is blank, for the first n columns
 pub record IsBlankRow (m : ℕ) (g : Cells) (row n mask : ℕ) : Type 0 where
   pub small : mask < 2 ^ n
   pub bits : (k : ℕ) → k < n → bit_at mask k ≡ (if slice_index g (row * side m + k) == 0 then 1 else 0)
@@ -45,7 +45,7 @@ marks_at m w cell = record {
   blanks_in_row = slice_index w.blanks (row_of m cell);
 }
 
--- the digit x + 1 stands at the cell
+-- the digit x + 1 is at the cell
 abbrev pub put_at : ℕ → {S C : ℕ} → Marked S C → ℕ → ℕ → Marked S C
 put_at m w cell x = record {
   cells = slice_set w.cells cell (x + 1);

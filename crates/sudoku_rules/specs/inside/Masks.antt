@@ -16,7 +16,7 @@ pub record IsSized (m s n : ℕ) : Type 0 where
 abbrev pub seen : (ℕ → ℕ) → Cells → ℕ → ℕ → ℕ → Bool
 seen group g n u d = any_below n (λ j. (u == group j) && (slice_index g j == d))
 
--- bit k of a group's mask is set exactly where one of the first n cells is in the group and has digit k + 1
+-- bit k of a group's mask is set exactly if one of the first n cells is in the group and has digit k + 1
 pub record IsMarked (m : ℕ) (group : ℕ → ℕ) (g : Cells) (n : ℕ) (masks : List ℕ) : Type 0 where
   pub long : length masks ≡ side m
   pub small : (u : ℕ) → u < side m → slice_index masks u < 2 ^ side m
@@ -29,7 +29,7 @@ pub record AreMasks (m : ℕ) {S : ℕ} (g : Cells) (n : ℕ) (masks : Masks S) 
   pub boxes : IsMarked m (box_of m) g n masks.boxes
   pub clash : masks.clash ≡ any_below n (λ i. any_below i (λ j. clash m g i j))
 
--- bit k is set exactly where digit k + 1 is a candidate of the cell
+-- bit k is set exactly if digit k + 1 is a candidate of the cell
 pub record AreOptions (m : ℕ) (g : Cells) (cell options : ℕ) : Type 0 where
   pub small : options < 2 ^ side m
   pub bits : (k : ℕ) → k < side m → bit_at options k ≡ (if used m g cell (k + 1) then 0 else 1)

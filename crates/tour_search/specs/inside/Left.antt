@@ -18,6 +18,7 @@ abbrev pub pieces_in : Option (Bor (List ℕ)) → ℕ → List (List ℕ)
 pieces_in None at = []
 pieces_in (Some rest) at = slice_split (λ byte. byte == at) rest.now
 
+-- the pieces that are left
 abbrev pub pieces_left : Pieces → List (List ℕ)
 pieces_left p = pieces_in p.rest p.at
 

@@ -18,6 +18,7 @@ abbrev pub or_refused : {X : Type 0} → ℕ → Option X → Read X
 or_refused number None = refused number why.Cost
 or_refused number (Some x) = Ok x
 
+-- the number of cities, or its refusal
 abbrev pub or_none : Option ℕ → Read ℕ
 or_none None = refused 1 why.Cities
 or_none (Some n) = Ok n

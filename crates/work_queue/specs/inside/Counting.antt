@@ -10,6 +10,7 @@ info_above info prio (Some top) =
     then record { free = info.free + 1; top = Some prio; at_top = 1 }
     else record { free = info.free + 1; top = Some top; at_top = if int_lt prio top then info.at_top else info.at_top + 1 }
 
+-- a count with one free unit more
 abbrev pub info_with : Info → ℤ → Info
 info_with info prio = info_above info prio info.top
 
@@ -21,5 +22,6 @@ run_above info n prio at (Some top) =
     then record { free = info.free + n; top = Some prio; at_top = at }
     else record { free = info.free + n; top = Some top; at_top = if int_lt prio top then info.at_top else info.at_top + at }
 
+-- a count with a run of free units more
 abbrev pub run_with : Info → ℕ → ℤ → ℕ → Info
 run_with info n prio at = run_above info n prio at info.top

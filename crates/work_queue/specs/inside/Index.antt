@@ -20,6 +20,7 @@ sort_of (Only rank) = 0
 sort_of (Soft rank) = 1
 sort_of Any = 2
 
+-- the rank that a target names, or 0
 abbrev pub named_by : Target → ℕ
 named_by (Only rank) = rank.0
 named_by (Soft rank) = rank.0
@@ -38,7 +39,7 @@ by_run a b rest = lower_first a.kind.0 b.kind.0
 abbrev pub by_turn : Entry → Entry → Bool
 by_turn a b = int_lt b.prio a.prio || (not (int_lt a.prio b.prio) && nat_lt a.stamp b.stamp)
 
--- a stands before b in the index
+-- a comes before b in the index
 abbrev pub goes_before : Entry → Entry → Bool
 goes_before a b = by_run a b (by_turn a b)
 
@@ -46,6 +47,7 @@ goes_before a b = by_run a b (by_turn a b)
 abbrev pub runs_before : Entry → Entry → Bool
 runs_before a b = by_run a b false
 
+-- each entry goes before all later ones
 abbrev pub IsInOrder : List Entry → Type 0
 IsInOrder entries = AllPairs (λ a b. goes_before a b ≡ true) entries
 
@@ -67,14 +69,14 @@ pub record IsIndexed (units : List Placed) (arrivals : ℕ) (index : Index) : Ty
   pub below : All (λ stamp. stamp < arrivals) index.stamps.items
   pub long : length index.stamps.items ≡ length units
 
--- an entry of the run: it has its type and target, and stands neither before the first nor after the last
+-- an entry of the run: it has its type and target, and is neither before the first nor after the last
 pub record IsOfRun (run : Run) (e : Entry) : Type 0 where
   pub kind : e.kind ≡ run.first.kind
   pub target : e.target ≡ run.first.target
   pub not_earlier : by_turn e run.first ≡ false
   pub not_later : by_turn run.last e ≡ false
 
--- what stands from this place on is a run: the entries of one type and target, of which the first stands there
+-- what is from this place on is a run: the entries of one type and target, of which the first stands there
 pub record IsRun (entries : List Entry) (place : ℕ) (run : Run) : Type 0 where
   pub first_is : run.first ≡ slice_index_or entries place run.first
   pub last_is : run.last ≡ slice_index_or entries (run.end - 1) run.last
@@ -122,6 +124,6 @@ leading outranks (Some found) e = if outranks e found then e else found
 abbrev pub prios_in : WorkType → List Entry → List ℤ
 prios_in kind entries = map (λ (e : Entry). e.prio) (filter (λ (e : Entry). e.kind.0 == kind.0) entries)
 
--- the entries that do not stand after all of this type, target and priority
+-- the entries that do not come after all of this type, target and priority
 abbrev pub as_high : Entry → Entry → Bool
 as_high first e = by_run e first (not (int_lt e.prio first.prio))

@@ -4,7 +4,7 @@ use Rattle.std.proofs.lemmas.List.{take_all}
 use Rattle.tour_app.proofs.Common.{if_ok_same, none_shared, none_sized, some_sized}
 use Rattle.tour_app.proofs.starts.Start.read.Goals as goal
 
--- all that stands behind the first of some bytes
+-- all that comes after the first of some bytes
 behind : (bytes : List ℕ) → take (length bytes - 1) (drop 1 bytes) ≡ drop 1 bytes
 behind bytes = take_all (length bytes - 1) (drop 1 bytes) (omega (arith, length-drop 1 bytes))
 
