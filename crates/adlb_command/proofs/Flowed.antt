@@ -1,5 +1,5 @@
 -- What is kept of a run over the flow of an input.
-use Rattle.std.proofs.Common.{◌≡◌, ℕ, List, Option, Some, None, subst}
+use Rattle.std.proofs.Common.{◌≡◌, ℕ, List, Option, Some, None, refl, subst}
 use Rattle.std.specs.Prelude.{option_map}
 use Rattle.flow_app.specs.Reading.{input_flow}
 use Rattle.flow_app.specs.declared.faults.FlowWhy.{FlowWhy}
@@ -30,7 +30,7 @@ module _ (before after : Scene) (k : Kept FlowOutcome) (bytes : List ℕ) (told 
   kept_ended (Some Read) ends = nothing_kept ends.1.none_kept
   kept_ended (Some Write) ends = kept_asked _ ends.1
   kept_ended (Some NoThread) ends = nothing_kept ends.2.none_kept
-  kept_ended (Some Memory) ends = kept_asked _ (ends.front tt)
+  kept_ended (Some Memory) ends = kept_asked _ (ends.front refl)
   kept_ended (Some (TooLong stamp)) ends = nothing_kept ends.2.none_kept
   kept_ended (Some (TooLarge taken)) ends = nothing_kept ends.4.none_kept
 

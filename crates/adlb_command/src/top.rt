@@ -90,9 +90,9 @@ pub fn run_adlb<S: Source, K: Sink, T: Spawner, G: Gate + Send + Drop + 'static>
             threads,
             gate,
         )),
-        Ok(Command::Flow(run)) => RunEnd::of(flow(
+        Ok(Command::Flow(asked)) => RunEnd::of(flow(
             alloc,
-            config(&run.sizes, false),
+            config(&asked.sizes, false),
             input,
             output,
             threads,

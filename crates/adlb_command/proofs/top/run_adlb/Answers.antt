@@ -106,10 +106,10 @@ returns-in-Ok-Flow-clause-ends g c =
     (scene (g.S.Source.left c.flow.new.input) (g.S.Source.faults c.flow.new.input) (g.K.Sink.taken c.flow.new.output)
     (g.K.Sink.faults c.flow.new.output) (g.K.Sink.all_flushed c.flow.new.output) (g.T.Spawner.faults c.flow.new.threads)
     (g.T.Spawner.starts c.flow.new.threads))
-    c.of-in-Ok-Flow.result.fault c.of-in-Ok-Flow.result.kept c.in-Ok-Flow.run
+    c.of-in-Ok-Flow.result.fault c.of-in-Ok-Flow.result.kept c.in-Ok-Flow.asked
     (subst (λ x. said ≡ Some x) c.in-Ok-Flow.field-0-is c.in-Ok-Flow.ensures.said)
     c.flow.result.fault c.flow.result.kept c.of-in-Ok-Flow.ensures.fault c.of-in-Ok-Flow.ensures.kept
-    (flowed_said _ _ c.flow.result.fault c.flow.result.kept c.config-in-Ok-Flow.result c.in-Ok-Flow.run
+    (flowed_said _ _ c.flow.result.fault c.flow.result.kept c.config-in-Ok-Flow.result c.in-Ok-Flow.asked
     c.config-in-Ok-Flow.ensures.numbers c.flow.ensures.finds)
 
 pub returns-in-Err-clause-ends : goal.returns-in-Err-clause-ends
