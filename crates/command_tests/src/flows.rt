@@ -72,10 +72,7 @@ const WORKED: &[Row] = &[
     (
         &["flow --ranks 1 --servers 1 --limit 64"],
         &["let a 3\nrule b add a a\nrule c mul a a\nrule d min a a\nrule e max a a\n"],
-        Shows::Kept(
-            "a = 3\nb = 6\nc = 9\nd = 3\ne = 3\ndone 5 waits 0\n",
-            "papapaprRprRqgfFpaqgfFqgfFpaqgfFqgfFpaqgfFqxo.",
-        ),
+        Shows::Is("a = 3\nb = 6\nc = 9\nd = 3\ne = 3\ndone 5 waits 0\n"),
     ),
 ];
 
