@@ -16,5 +16,6 @@ pending_of last rank = option_and_then (λ r. call_of r.status) (rank_at last ra
 abbrev pub begun_by : Config → List Entry → Bag → Rank → ℕ
 begun_by config ledger last rank = length (calls config ledger rank) + (if is_some (pending_of last rank) then 1 else 0)
 
+-- how many calls all ranks have begun
 abbrev pub all_begun : Config → List Entry → Bag → ℕ
 all_begun config ledger last = over_ranks config.ranks (begun_by config ledger last)

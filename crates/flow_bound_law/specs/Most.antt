@@ -3,11 +3,12 @@ use Rattle.std.specs.Prelude.{ℕ, ◌+◌, ◌*◌, Bool, true, false, List, co
 use Rattle.flow_law.specs.declared.Definition.{Definition}
 use Rattle.flow_law.specs.declared.Definition.TheVariants as defines
 
--- how many rules a flow has
+-- whether a definition is a rule
 abbrev pub is_rule : Definition → Bool
 is_rule (defines.Let name v) = false
 is_rule (defines.Rule name op left right) = true
 
+-- how many rules a flow has
 abbrev pub rule_count : List Definition → ℕ
 rule_count flow = count_by is_rule flow
 

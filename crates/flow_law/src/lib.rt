@@ -14,7 +14,8 @@ use std::marker::Model;
 #[derive(Drop)]
 pub struct Name {
     letters: [u8; 16],
-    count: usize,
+    // A byte, since a flow may have many names, and is kept whole twice.
+    count: u8,
 }
 
 impl Model for Name {
@@ -39,7 +40,7 @@ impl Name {
         letters[..bytes.len()].copy_from_slice(bytes);
         Name {
             letters,
-            count: bytes.len(),
+            count: bytes.len() as u8,
         }
     }
 
@@ -47,7 +48,7 @@ impl Name {
     pub fn bytes(&self) -> &[u8]
         ensures { result.now ≡ self.now }
     {
-        &self.letters[..self.count]
+        &self.letters[..self.count as usize]
     }
 }
 
