@@ -2,7 +2,6 @@
 use Rattle.std.proofs.Common.{◌≡◌, ◌≢◌, ◌<◌, ◌≤◌, ◌^◌, ℕ, ◌+◌, List, [], ◌∷◌, ◌++◌, length, get_or, Some, None, refl, sym, ap, ◌∙◌, All}
 use Rattle.std.proofs.Common.{sum_by, arith, IsSome, is_some, true}
 use Rattle.std.specs.List.Sorted.{IsPermutation}
-use Rattle.std.specs.VecDeque.{deque_capacity, deque_len}
 use Rattle.std.proofs.lemmas.List.Elements.{All-push, All-weaker, filter_map-append}
 use Rattle.std.proofs.lemmas.List.Quantifiers.{all_pairs_push}
 use Rattle.std.proofs.lemmas.List.Sums.{sum_by_push}
@@ -65,7 +64,7 @@ pub record Comes (w v : Inside) (key : ℕ) (unit : Unit) : Type 0 where
   pub arrivals : v.arrivals ≡ w.arrivals + 1
   pub slots_room : HasRoomFor v.slots (length v.rooms)
   pub order_room : length v.order.items + length v.rooms ≤ v.order.capacity
-  pub entries_room : deque_len v.index.entries + length v.rooms ≤ deque_capacity v.index.entries
+  pub entries_room : length v.index.entries.items + length v.rooms ≤ v.index.entries.capacity
   pub stamps_room : length v.index.stamps.items + length v.rooms ≤ v.index.stamps.capacity
   pub names_room : length v.rooms ≤ spare_in v.names
 

@@ -1,7 +1,6 @@
 -- A queue with more room, and with one promise more or less.
 use Rattle.std.proofs.Common.{◌≡◌, ◌≢◌, ◌≤◌, ◌+◌, ℕ, List, ◌∷◌, [], ◌++◌, length, refl, ap, ◌∙◌, sum_by}
 use Rattle.std.specs.List.{filter}
-use Rattle.std.specs.VecDeque.{deque_capacity, deque_len}
 use Rattle.std.proofs.lemmas.List.Elements.{All-filter, All-push}
 use Rattle.std.proofs.lemmas.List.Kept.{AllPairs-filter}
 use Rattle.std.proofs.lemmas.List.Quantifiers.{all_pairs_push}
@@ -24,7 +23,7 @@ pub record IsGrown (w v : Inside) : Type 0 where
   pub arrivals : v.arrivals ≡ w.arrivals
   pub slots_room : HasRoomFor v.slots (length v.rooms)
   pub order_room : length v.order.items + length v.rooms ≤ v.order.capacity
-  pub entries_room : deque_len v.index.entries + length v.rooms ≤ deque_capacity v.index.entries
+  pub entries_room : length v.index.entries.items + length v.rooms ≤ v.index.entries.capacity
   pub stamps_room : length v.index.stamps.items + length v.rooms ≤ v.index.stamps.capacity
   pub names_room : length v.rooms ≤ spare_in v.names
 

@@ -1,73 +1,80 @@
--- Two lists one after the other, and numbers that rise in them.
-use Rattle.std.proofs.Common.{◌≡◌, ◌<◌, ◌≤◌, ◌+◌, ◌-◌, ◌++◌, ℕ, List, Option, None, Some, OnSome, length, get_or, sym, ap, ◌∙◌, arith, inl}
-use Rattle.std.proofs.Common.{inr}
-use Rattle.std.specs.List.{AllPairs}
-use Rattle.std.proofs.lemmas.Bool.{cases_lt}
-use Rattle.std.proofs.lemmas.List.{length-append, get_or_append_left, get_or-append-add, get_or_default}
+-- Two lists one after the other, and the place in both where a test begins to fail.
+use Rattle.std.proofs.Common.{◌≡◌, ◌<◌, ◌≤◌, ◌+◌, ◌-◌, ◌++◌, ℕ, Bool, true, false, List, Option, None, Some, OnSome, length, get_or, refl, sym, ap, ◌∙◌}
+use Rattle.std.proofs.Common.{arith, inl, inr, Bor, [], ◌∷◌}
+use Rattle.std.specs.Fn.{Called, ComputesKey, Mut}
+use Rattle.std.specs.List.Sorted.{IsPartitionPoint, IsPartitionedBy}
+use Rattle.std.proofs.lemmas.Bool.{both_ways, cases_lt}
+use Rattle.std.proofs.lemmas.List.{length-append, get_or_append_left, get_or-append-add, get_or-append_right, get_or_default}
 
-module _ (front back : List ℕ) (rises : AllPairs (λ a b. a < b) (front ++ back)) where
-  -- numbers that rise do so in the second list
-  pub back_rises : AllPairs (λ a b. a < b) back
-  back_rises i j d before within =
-      let long = length-append front back in
-      rw (sym (get_or-append-add front back i d), sym (get_or-append-add front back j d))
-      (rises (length front + i) (length front + j) d (omega (arith, before)) (omega (arith, long, within)))
+module _ {X : Type 0} (p : X → Bool) (front back : List X) where
+  -- the place from which on the test fails, in a list
+  abbrev Point : List X → ℕ → Type 0
+  Point xs n = IsPartitionPoint (λ y. p y ≡ true) (λ y. p y ≡ false) xs n
 
-  -- what is in the first list is not above its last
-  not_above : (k d : ℕ) → k < length front → get_or (front ++ back) k d ≤ get_or front (length front - 1) d
-  not_above k d within = elim (cases_lt k (length front - 1)) [
-    | inl before ↦
+  module _ (parted : IsPartitionedBy p (front ++ back)) where
+    -- what passes comes first in each of the two lists
+    pub front_parted : IsPartitionedBy p front
+    front_parted i j d le within passes =
         let long = length-append front back in
-        let last = get_or_append_left front back d (length front - 1) (omega (arith, within)) in
-        let less = rises k (length front - 1) d before (omega (arith, long, within)) in
-        omega (arith, last, less)
-    | inr there ↦
-        let is : k ≡ length front - 1 = omega (arith, there, within) in
-        let same = get_or_append_left front back d k within ∙ ap (λ n. get_or front n d) is in
-        omega (arith, same)
-  ]
+        sym (ap p (get_or_append_left front back d i (omega (arith, le, within))))
+        ∙ parted i j d le (omega (arith, long, within)) (ap p (get_or_append_left front back d j within) ∙ passes)
 
-  -- what is in the other list is above the last of the first
-  above : (k d : ℕ) → 0 < length front → length front ≤ k → k < length (front ++ back)
-      → get_or front (length front - 1) d < get_or (front ++ back) k d
-  above k d some behind within =
-      let last = get_or_append_left front back d (length front - 1) (omega (arith, some)) in
-      let less = rises (length front - 1) k d (omega (arith, some, behind)) within in
-      omega (arith, last, less)
-
-  -- a number that is not above the last of the first list stands in that list
-  pub stands_ahead : (stamp last place : ℕ) → 0 < length front → ((d : ℕ) → get_or front (length front - 1) d ≡ last) → stamp ≤ last
-      → ((k d : ℕ) → k < length front → get_or front k d ≡ stamp → place ≡ k)
-      → (k d : ℕ) → k < length (front ++ back) → get_or (front ++ back) k d ≡ stamp → place ≡ k
-  stands_ahead stamp last place some last_is low finds k d within is = elim (cases_lt k (length front)) [
-    | inl ahead ↦ finds k d ahead (sym (get_or_append_left front back d k ahead) ∙ is)
-    | inr behind ↦
-        let more = above k d some behind within in
-        absurd (omega (arith, more, last_is d, low, is))
-  ]
-
-  -- a number that is above all of the first list is in the other
-  pub stands_behind : (stamp place n : ℕ) → n ≡ length front → ((d : ℕ) → 0 < length front → get_or front (length front - 1) d < stamp)
-      → ((k d : ℕ) → k < length back → get_or back k d ≡ stamp → place ≡ k)
-      → (k d : ℕ) → k < length (front ++ back) → get_or (front ++ back) k d ≡ stamp → n + place ≡ k
-  stands_behind stamp place n n_is high finds k d within is = elim (cases_lt k (length front)) [
-    | inl ahead ↦
-        let less = high d (omega (arith, ahead)) in
-        let low = not_above k d ahead in
-        absurd (omega (arith, less, low, is))
-    | inr behind ↦
+    pub back_parted : IsPartitionedBy p back
+    back_parted i j d le within passes =
         let long = length-append front back in
-        let at : length front + (k - length front) ≡ k = omega (arith, behind) in
-        let same = sym (get_or-append-add front back (k - length front) d) ∙ ap (λ n. get_or (front ++ back) n d) at ∙ is in
-        let found = finds (k - length front) d (omega (arith, long, within, behind)) same in
-        omega (arith, found, behind, n_is)
-  ]
+        sym (ap p (get_or-append-add front back i d))
+        ∙ parted (length front + i) (length front + j) d (omega (arith, le)) (omega (arith, long, within))
+        (ap p (get_or-append-add front back j d) ∙ passes)
+
+    -- if the last of the first list fails, so does all of the other
+    pub point_ahead : (last : X) (n : ℕ) → 0 < length front → ((d : X) → get_or front (length front - 1) d ≡ last) → p last ≡ false
+        → Point front n → Point (front ++ back) n
+    point_ahead last n some read fails point = (
+      λ k d from below. elim (cases_lt k (length front)) [
+        | inl ahead ↦ ap p (get_or_append_left front back d k ahead) ∙ point.0 k d from below
+        | inr behind ↦
+            absurd (both_ways (p last) fails (ap p (sym (read d)) ∙ point.0 (length front - 1) d (omega arith) (omega (arith, behind, below))))
+      ],
+      λ k d from below. elim (cases_lt k (length front)) [
+        | inl ahead ↦ ap p (get_or_append_left front back d k ahead) ∙ point.1 k d from ahead
+        | inr behind ↦ by_test k d behind below (p (get_or (front ++ back) k d)) refl
+      ],
+    )
+      where
+        by_test : (k : ℕ) (d : X) → length front ≤ k → k < length (front ++ back) → (t : Bool) → p (get_or (front ++ back) k d) ≡ t
+            → p (get_or (front ++ back) k d) ≡ false
+        by_test k d behind below false is = is
+        by_test k d behind below true is =
+            let here = get_or_append_left front back d (length front - 1) (omega (arith, some)) ∙ read d in
+            absurd (both_ways (p last) fails (sym (ap p here) ∙ parted (length front - 1) k d (omega (arith, behind)) below is))
+
+    -- if it passes, or the first list is empty, so does all of the first list
+    pub point_behind : (n m : ℕ) → m ≡ length front → ((d : X) → 0 < length front → p (get_or front (length front - 1) d) ≡ true)
+        → Point back n → Point (front ++ back) (m + n)
+    point_behind n m m_is last point = (
+      λ k d from below. elim (cases_lt k (length front)) [
+        | inl ahead ↦ ap p (get_or_append_left front back d k ahead)
+            ∙ front_parted k (length front - 1) d (omega (arith, ahead)) (omega (arith, ahead)) (last d (omega (arith, ahead)))
+        | inr behind ↦ ap p (get_or-append_right front back m k d (sym m_is) (omega (arith, behind, m_is)))
+            ∙ point.0 (k - m) d (omega arith) (omega (arith, below, behind, m_is))
+      ],
+      λ k d from below.
+          let long = length-append front back in
+          ap p (get_or-append_right front back m k d (sym m_is) (omega (arith, from)))
+          ∙ point.1 (k - m) d (omega (arith, from)) (omega (arith, below, long, from, m_is)),
+    )
 
 -- the last of a list of this length, whatever is read past its end
-pub last_read : (list : List ℕ) (last n : ℕ) → n ≡ length list → 0 < length list → last ≡ get_or list (n - 1) last → (d : ℕ)
-    → get_or list (length list - 1) d ≡ last
+pub last_read : {X : Type 0} (list : List X) (last : X) (n : ℕ) → n ≡ length list → 0 < length list → last ≡ get_or list (n - 1) last
+    → (d : X) → get_or list (length list - 1) d ≡ last
 last_read list last n n_is some read d =
     get_or_default list (length list - 1) d last (omega (arith, some)) ∙ sym (read ∙ ap (λ k. get_or list (k - 1) last) n_is)
+
+-- a call of a test answers as it computes, and leaves a test that does
+pub one_call : {F X K : Type 0} (g : Mut F (Bor X × Unit {0}) K) {f f' : F} {x : Bor X} {r : K} (key : X → K) → ComputesKey g key f
+    → Called g f (x, tt) r f' → (r ≡ key x.now) × ComputesKey g key f'
+one_call g {f} {f'} {x} {r} key computes call =
+    ((computes.at ((x, tt) ∷ []) r f' call).0, record { at = λ xs. (computes.at ((x, tt) ∷ xs) r f' call).1 })
 
 -- what follows of an option's value follows of the option
 pub after_some : {X : Type 0} (o : Option X) {A B : Type 0} → (A → B) → OnSome o A → OnSome o B

@@ -3,7 +3,6 @@ use Rattle.std.proofs.Common.{◌≡◌, ◌≢◌, ◌<◌, ◌≤◌, ◌+◌,
 use Rattle.std.proofs.Common.{refl, sym, ap, ◌∙◌, All, IfSome, IsSome, arith, add-one}
 use Rattle.std.specs.List.{remove}
 use Rattle.std.specs.List.Sorted.{IsPermutation}
-use Rattle.std.specs.VecDeque.{deque_capacity, deque_len}
 use Rattle.std.proofs.lemmas.List.{drop_more, get_or_default, length-take-le, take-append-drop}
 use Rattle.std.proofs.lemmas.List.Elements.{All-append, All-drop, All-take}
 use Rattle.std.proofs.lemmas.List.Quantifiers.{all_pairs_remove}
@@ -89,8 +88,8 @@ pub record LeavesIndex (w : Inside) (place : ℕ) (p : Placed) (index : Index) :
   pub gone : All (λ x. x ≢ entry_of p (get_or w.index.stamps.items place 0)) index.entries.items
   pub in_order : IsInOrder index.entries.items
   pub stamps : index.stamps ≡ w.index.stamps
-  pub fewer : deque_len index.entries + 1 ≡ deque_len w.index.entries
-  pub same : deque_capacity index.entries ≡ deque_capacity w.index.entries
+  pub fewer : length index.entries.items + 1 ≡ length w.index.entries.items
+  pub same : index.entries.capacity ≡ w.index.entries.capacity
 
 -- the index has neither the unit's entry, if that was free, nor its stamp
 pub record ForgetsUnit (w : Inside) (place : ℕ) (p : Placed) (index : Index) : Type 0 where
@@ -99,8 +98,8 @@ pub record ForgetsUnit (w : Inside) (place : ℕ) (p : Placed) (index : Index) :
   pub gone : p.pin ≡ None → All (λ x. x ≢ entry_of p (get_or w.index.stamps.items place 0)) index.entries.items
   pub in_order : IsInOrder index.entries.items
   pub stamps : index.stamps.items ≡ remove w.index.stamps.items place
-  pub fewer : deque_len index.entries ≤ deque_len w.index.entries
-  pub same : deque_capacity index.entries ≡ deque_capacity w.index.entries
+  pub fewer : length index.entries.items ≤ length w.index.entries.items
+  pub same : index.entries.capacity ≡ w.index.entries.capacity
   pub stamps_fewer : length index.stamps.items + 1 ≡ length w.index.stamps.items
   pub stamps_same : index.stamps.capacity ≡ w.index.stamps.capacity
 

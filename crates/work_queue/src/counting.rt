@@ -8,11 +8,11 @@ ghost use Rattle.work_queue.specs.inside.Index.{IsInOrder, as_high, prios_in};
 
 use crate::entries::{Entry, run_comes_first};
 use crate::indexing::run_at;
+use crate::parted::Parted;
 use adlb_unit::{Info, WorkType};
-use std::collections::VecDeque;
 
 // How many entries are of an earlier run, or of this run and of no lower priority than its first.
-fn top_end(entries: &VecDeque<Entry>, first: &Entry) -> usize
+fn top_end(entries: &Parted<Entry>, first: &Entry) -> usize
     requires { IsInOrder entries.now.items }
     ensures within { result ≤ length entries.now.items }
     ensures point { IsPartitionPoint (λ x. as_high first.now x ≡ true) (λ x. as_high first.now x ≡ false) entries.now.items result }
@@ -52,7 +52,7 @@ fn with_run(info: Info, n: u64, first: &Entry, at: u64) -> Info
 }
 
 // What is counted of the entries of the type: each run is counted by the places where it and its highest priority end.
-pub(crate) fn count_kind(entries: &VecDeque<Entry>, kind: WorkType) -> Info
+pub(crate) fn count_kind(entries: &Parted<Entry>, kind: WorkType) -> Info
     requires { IsInOrder entries.now.items }
     ensures { result ≡ info_of_prios (prios_in kind entries.now.items) }
 {

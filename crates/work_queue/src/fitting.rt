@@ -9,8 +9,8 @@ ghost use Rattle.work_queue.specs.declared.entries.Entry.{Entry};
 
 use crate::entries::Entry;
 use crate::indexing::run_at;
+use crate::parted::Parted;
 use adlb_unit::{Rank, Types, permits};
-use std::collections::VecDeque;
 
 // The unit is permitted to one of the requests.
 fn is_permitted(entry: &Entry, asked: &[(Rank, Types)]) -> bool
@@ -42,7 +42,7 @@ fn earlier_of(found: Option<Entry>, entry: Entry) -> Entry
 
 // Of what was found before and the entries from `start` to `end`, which are all permitted, the one that came first.
 fn earliest_of(
-    entries: &VecDeque<Entry>,
+    entries: &Parted<Entry>,
     asked: &[(Rank, Types)],
     start: usize,
     end: usize,
@@ -56,13 +56,13 @@ fn earliest_of(
 {
     let mut first = found;
     for place in start..end {
-        first = Some(earlier_of(first, entries[place]));
+        first = Some(earlier_of(first, entries.at(place)));
     }
     first
 }
 
 // The first entry to have come that is permitted to one of the requests.
-pub(crate) fn first_asked(entries: &VecDeque<Entry>, asked: &[(Rank, Types)]) -> Option<Entry>
+pub(crate) fn first_asked(entries: &Parted<Entry>, asked: &[(Rank, Types)]) -> Option<Entry>
     requires { IsInOrder entries.now.items }
     ensures { IsLeading (may_serve asked.now) came_first entries.now.items (length entries.now.items) result }
 {

@@ -1,7 +1,6 @@
 //! Room for units that are still to come.
 
 ghost use Rattle.std.specs.Prelude.{◌≡◌, ◌≤◌, ◌+◌, OnOk, length};
-ghost use Rattle.std.specs.VecDeque.{deque_capacity, deque_len};
 ghost use Rattle.adlb_unit.specs.declared.names.UnitId.{UnitId};
 ghost use Rattle.slab.specs.Slab.{HasRoomFor};
 ghost use Rattle.work_queue.specs.inside.Names.{spare_in, stamp_at};
@@ -28,10 +27,9 @@ pub(crate) fn make_room(
     ensures order_grown { order.old.capacity ≤ order.new.capacity }
     ensures entries { index.new.entries.items ≡ index.old.entries.items }
     ensures stamps { index.new.stamps.items ≡ index.old.stamps.items }
-    ensures entries_len { deque_len index.new.entries ≡ deque_len index.old.entries }
-    ensures entries_grown { deque_capacity index.old.entries ≤ deque_capacity index.new.entries }
+    ensures entries_grown { index.old.entries.capacity ≤ index.new.entries.capacity }
     ensures stamps_grown { index.old.stamps.capacity ≤ index.new.stamps.capacity }
-    ensures entries_room { OnOk result (deque_len index.new.entries + more ≤ deque_capacity index.new.entries) }
+    ensures entries_room { OnOk result (length index.new.entries.items + more ≤ index.new.entries.capacity) }
     ensures stamps_room { OnOk result (length index.new.stamps.items + more ≤ index.new.stamps.capacity) }
     ensures names { (q : UnitId) → stamp_at names.new q ≡ stamp_at names.old q }
     ensures names_grown { spare_in names.old ≤ spare_in names.new }

@@ -3,25 +3,23 @@
 ghost use Rattle.std.specs.Prelude.{◌≡◌, ◌≢◌, ◌<◌, ◌≤◌, ◌+◌, ◌++◌, ◌∷◌, [], All, Contains, IfNone, IfSome, OnOk, length, true, false};
 ghost use Rattle.std.specs.List.{AllPairs, remove};
 ghost use Rattle.std.specs.List.Sorted.{IsPermutation, IsPartitionPoint};
-ghost use Rattle.std.specs.VecDeque.{deque_capacity, deque_len};
 ghost use Rattle.work_queue.specs.inside.Index.{IsInOrder, IsRun, goes_before, runs_before};
 ghost use Rattle.work_queue.specs.declared.entries.Entry.{Entry};
 
 use crate::entries::{Entry, comes_before, is_of_earlier_run};
 use crate::parted::Parted;
 use std::alloc::{AllocError, Global};
-use std::collections::VecDeque;
 
 // The entries of the free units in order; and for each unit, free or pinned, in arrival order, how many had come
 // before it.
 #[derive(Drop)]
 pub struct Index {
-    pub(crate) entries: VecDeque<Entry>,
+    pub(crate) entries: Parted<Entry>,
     pub(crate) stamps: Parted<u64>,
 }
 
 // How many entries come before this one.
-fn place_for(entries: &VecDeque<Entry>, entry: &Entry) -> usize
+fn place_for(entries: &Parted<Entry>, entry: &Entry) -> usize
     requires { IsInOrder entries.now.items }
     ensures within { result ≤ length entries.now.items }
     ensures point { IsPartitionPoint (λ x. goes_before x entry.now ≡ true) (λ x. goes_before x entry.now ≡ false) entries.now.items result }
@@ -38,7 +36,7 @@ pub struct Run {
 }
 
 // How many entries are not of a run after that of this one.
-fn run_end(entries: &VecDeque<Entry>, entry: &Entry) -> usize
+fn run_end(entries: &Parted<Entry>, entry: &Entry) -> usize
     requires { IsInOrder entries.now.items }
     ensures within { result ≤ length entries.now.items }
     ensures point { IsPartitionPoint (λ x. runs_before entry.now x ≡ false) (λ x. runs_before entry.now x ≡ true) entries.now.items result }
@@ -47,16 +45,16 @@ fn run_end(entries: &VecDeque<Entry>, entry: &Entry) -> usize
 }
 
 // The run that begins at this place, whose end is found by binary search.
-pub(crate) fn run_at(entries: &VecDeque<Entry>, place: usize) -> Run
+pub(crate) fn run_at(entries: &Parted<Entry>, place: usize) -> Run
     requires order { IsInOrder entries.now.items }
     requires there { place < length entries.now.items }
     ensures { IsRun entries.now.items place result }
 {
-    let first = entries[place];
+    let first = entries.at(place);
     let end = run_end(entries, &first);
     Run {
         first,
-        last: entries[end - 1],
+        last: entries.at(end - 1),
         end,
     }
 }
@@ -65,10 +63,9 @@ impl Index {
     pub(crate) fn new(alloc: Global) -> Index
         ensures entries { result.entries.items ≡ [] }
         ensures stamps { result.stamps.items ≡ [] }
-        ensures entries_len { deque_len result.entries ≡ 0 }
     {
         Index {
-            entries: VecDeque::new(alloc),
+            entries: Parted::new(alloc),
             stamps: Parted::new(alloc),
         }
     }
@@ -77,10 +74,9 @@ impl Index {
     pub(crate) fn reserve(&mut self, more: usize) -> Result<(), AllocError>
         ensures entries { self.new.entries.items ≡ self.old.entries.items }
         ensures stamps { self.new.stamps.items ≡ self.old.stamps.items }
-        ensures entries_len { deque_len self.new.entries ≡ deque_len self.old.entries }
-        ensures entries_grown { deque_capacity self.old.entries ≤ deque_capacity self.new.entries }
+        ensures entries_grown { self.old.entries.capacity ≤ self.new.entries.capacity }
         ensures stamps_grown { self.old.stamps.capacity ≤ self.new.stamps.capacity }
-        ensures entries_room { OnOk result (deque_len self.new.entries + more ≤ deque_capacity self.new.entries) }
+        ensures entries_room { OnOk result (length self.new.entries.items + more ≤ self.new.entries.capacity) }
         ensures stamps_room { OnOk result (length self.new.stamps.items + more ≤ self.new.stamps.capacity) }
     {
         self.entries.reserve(more)?;
@@ -91,23 +87,19 @@ impl Index {
     pub(crate) fn add(&mut self, entry: Entry)
         requires order { IsInOrder self.old.entries.items }
         requires last { All (λ x. x.stamp < entry.stamp) self.old.entries.items }
-        requires entries_room { deque_len self.old.entries < deque_capacity self.old.entries }
+        requires entries_room { length self.old.entries.items < self.old.entries.capacity }
         requires stamps_room { length self.old.stamps.items < self.old.stamps.capacity }
         ensures entries { IsPermutation (entry ∷ self.old.entries.items) self.new.entries.items }
         ensures order { IsInOrder self.new.entries.items }
         ensures stamps { self.new.stamps.items ≡ self.old.stamps.items ++ entry.stamp ∷ [] }
-        ensures entries_len { deque_len self.new.entries ≡ deque_len self.old.entries + 1 }
+        ensures entries_len { length self.new.entries.items ≡ length self.old.entries.items + 1 }
         ensures stamps_len { length self.new.stamps.items ≡ length self.old.stamps.items + 1 }
-        ensures entries_grown { deque_capacity self.old.entries ≤ deque_capacity self.new.entries }
+        ensures entries_grown { self.old.entries.capacity ≤ self.new.entries.capacity }
         ensures stamps_grown { self.old.stamps.capacity ≤ self.new.stamps.capacity }
     {
         let place = place_for(&self.entries, &entry);
         self.stamps.push(entry.stamp);
-        let added = self.entries.insert(place, entry);
-        match added {
-            Ok(()) => {}
-            Err(_) => unreachable!(),
-        }
+        self.entries.insert(place, entry);
     }
 
     // A unit is free no longer.
@@ -118,8 +110,8 @@ impl Index {
         ensures gone { All (λ x. x ≢ entry.now) self.new.entries.items }
         ensures order { IsInOrder self.new.entries.items }
         ensures stamps { self.new.stamps ≡ self.old.stamps }
-        ensures entries_len { deque_len self.new.entries + 1 ≡ deque_len self.old.entries }
-        ensures entries_same { deque_capacity self.new.entries ≡ deque_capacity self.old.entries }
+        ensures entries_len { length self.new.entries.items + 1 ≡ length self.old.entries.items }
+        ensures entries_same { self.new.entries.capacity ≡ self.old.entries.capacity }
     {
         let place = place_for(&self.entries, entry);
         let removed = self.entries.remove(place);
@@ -139,8 +131,8 @@ impl Index {
         ensures gone { IfSome entry (λ e. All (λ x. x ≢ e) self.new.entries.items) }
         ensures order { IsInOrder self.new.entries.items }
         ensures stamps { self.new.stamps.items ≡ remove self.old.stamps.items place }
-        ensures entries_len { deque_len self.new.entries ≤ deque_len self.old.entries }
-        ensures entries_same { deque_capacity self.new.entries ≡ deque_capacity self.old.entries }
+        ensures entries_len { length self.new.entries.items ≤ length self.old.entries.items }
+        ensures entries_same { self.new.entries.capacity ≡ self.old.entries.capacity }
         ensures stamps_len { length self.new.stamps.items + 1 ≡ length self.old.stamps.items }
         ensures stamps_same { self.new.stamps.capacity ≡ self.old.stamps.capacity }
     {

@@ -1,17 +1,20 @@
-//! Lists of which items go anywhere, one near the other.
+//! Lists in which items come and go anywhere, one near the other.
 
-ghost use Rattle.std.specs.Prelude.{◌≡◌, ◌<◌, ◌≤◌, ◌+◌, ◌++◌, ◌∷◌, ◌↔◌, [], ℕ, IfSome, IsSome, OnOk, OnSome, length, slice_index_or};
-ghost use Rattle.std.specs.List.{AllPairs, remove};
+ghost use Rattle.std.specs.Prelude.{◌≡◌, ◌<◌, ◌≤◌, ◌+◌, ◌++◌, ◌∷◌, ◌↔◌, [], ℕ, Bool, IfSome, IsSome, OnOk, OnSome, false, length, slice_index_or, true};
+ghost use Rattle.std.specs.Fn.{ComputesKey};
+ghost use Rattle.std.specs.List.{AllPairs, insert, remove};
+ghost use Rattle.std.specs.List.Sorted.{IsPartitionPoint, IsPartitionedBy};
+ghost use Rattle.std.specs.VecDeque.{deque_capacity, deque_len};
 
 use std::alloc::{AllocError, Global};
 use std::collections::VecDeque;
 use std::marker::Model;
 
-/// How many items move at most where an item goes, if it is not far from where the last ones went.
+/// How many items move at most where an item comes or goes, if it is not far from where the last ones did.
 const STEPS: usize = 64;
 
-// A list in two parts, one after the other. Where an item goes far from where its part begins and ends, the parts come to meet
-// nearer to its place. So where items go in turn, few others move, however many there are.
+// A list in two parts, one after the other. Where an item comes or goes far from where its part begins and ends, the parts come
+// to meet nearer to its place. So where items come and go in turn, at either end and at one place between, few others move.
 #[derive(Drop)]
 pub struct Parted<T> {
     front: VecDeque<T>,
@@ -88,6 +91,42 @@ impl<T> Parted<T> {
             self.front.get(place)
         } else {
             self.back.get(place - ahead)
+        }
+    }
+
+    // How many items pass the test, if those come before the others.
+    pub(crate) fn partition_point<P: FnMut(&T) -> bool>(&self, mut passes: P) -> usize
+        requires { P.IsAlwaysCallable passes }
+        ensures within { result ≤ length self.now.items }
+        ensures partitioned { (p : T → Bool) → ComputesKey P.FnMut p passes → IsPartitionedBy p self.now.items → IsPartitionPoint (λ y. p y ≡ true) (λ y. p y ≡ false) self.now.items result }
+    {
+        let ahead = self.front.len();
+        match self.front.back() {
+            None => ahead + self.back.partition_point(passes),
+            Some(last) => {
+                if passes(last) {
+                    ahead + self.back.partition_point(passes)
+                } else {
+                    self.front.partition_point(passes)
+                }
+            }
+        }
+    }
+
+    // An item comes to this place. Where the parts meet, it is the last of the first, so that the next may follow it.
+    pub(crate) fn insert(&mut self, place: usize, item: T)
+        requires within { place ≤ length self.old.items }
+        requires room { length self.old.items < self.old.capacity }
+        ensures items { self.new.items ≡ insert self.old.items place item }
+        ensures len { length self.new.items ≡ length self.old.items + 1 }
+        ensures capacity { self.new.capacity ≡ self.old.capacity }
+    {
+        self.meet_near(place);
+        let ahead = self.front.len();
+        if place <= ahead {
+            put_in(&mut self.front, place, item);
+        } else {
+            put_in(&mut self.back, place - ahead, item);
         }
     }
 
@@ -173,13 +212,19 @@ impl<T: Copy> Parted<T> {
     }
 }
 
-// The place of this stamp, if it is one of the deque's, which rise.
-fn place_in(stamps: &VecDeque<u64>, stamp: u64) -> usize
-    requires { AllPairs (λ a b. a < b) stamps.now.items }
-    ensures within { result ≤ length stamps.now.items }
-    ensures place { (k d : ℕ) → k < length stamps.now.items → slice_index_or stamps.now.items k d ≡ stamp → result ≡ k }
+// An item comes to this place of a deque that has room for it.
+fn put_in<T>(items: &mut VecDeque<T>, place: usize, item: T)
+    requires within { place ≤ deque_len items.old }
+    requires room { deque_len items.old < deque_capacity items.old }
+    ensures items { items.new.items ≡ insert items.old.items place item }
+    ensures len { deque_len items.new ≡ deque_len items.old + 1 }
+    ensures capacity { deque_capacity items.old ≤ deque_capacity items.new }
 {
-    stamps.partition_point(|x| *x < stamp)
+    let added = items.insert(place, item);
+    match added {
+        Ok(()) => {}
+        Err(_) => unreachable!(),
+    }
 }
 
 impl Parted<u64> {
@@ -188,16 +233,6 @@ impl Parted<u64> {
         requires { AllPairs (λ a b. a < b) self.now.items }
         ensures { (k d : ℕ) → k < length self.now.items → slice_index_or self.now.items k d ≡ stamp → result ≡ k }
     {
-        let ahead = self.front.len();
-        match self.front.back() {
-            None => ahead + place_in(&self.back, stamp),
-            Some(last) => {
-                if stamp <= *last {
-                    place_in(&self.front, stamp)
-                } else {
-                    ahead + place_in(&self.back, stamp)
-                }
-            }
-        }
+        self.partition_point(|x| *x < stamp)
     }
 }

@@ -6,8 +6,8 @@ ghost use Rattle.work_queue.specs.inside.Index.{IsInOrder, IsLeading, leading, m
 
 use crate::entries::{Entry, turn_comes_first};
 use crate::indexing::run_at;
+use crate::parted::Parted;
 use adlb_unit::{Rank, Target, Types, class_for, permits};
-use std::collections::VecDeque;
 
 // For the rank, `entry` comes before `other`.
 fn is_better(rank: Rank, entry: &Entry, other: &Entry) -> bool
@@ -35,7 +35,7 @@ fn better_of(rank: Rank, found: Option<Entry>, entry: Entry) -> Entry
 }
 
 // The best entry for the rank: of each run that it may have, the first is looked at.
-pub(crate) fn best_entry(entries: &VecDeque<Entry>, rank: Rank, types: &Types) -> Option<Entry>
+pub(crate) fn best_entry(entries: &Parted<Entry>, rank: Rank, types: &Types) -> Option<Entry>
     requires { IsInOrder entries.now.items }
     ensures { IsLeading (may_have rank types.now) (suits_better rank) entries.now.items (length entries.now.items) result }
 {
@@ -78,7 +78,7 @@ fn first_of(found: Option<Entry>, entry: Entry) -> Entry
 }
 
 // The entry that is pushed first: of each run of target any, the last is looked at.
-pub(crate) fn first_to_move(entries: &VecDeque<Entry>) -> Option<Entry>
+pub(crate) fn first_to_move(entries: &Parted<Entry>) -> Option<Entry>
     requires { IsInOrder entries.now.items }
     ensures { IsLeading may_move moves_first entries.now.items (length entries.now.items) result }
 {

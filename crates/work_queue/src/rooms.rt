@@ -1,6 +1,6 @@
 //! Room that is promised to units on their way.
 
-ghost use Rattle.std.specs.Prelude.{◌≡◌, ◌+◌, ◌↔◌, ◌++◌, ◌∷◌, [], ℕ, All, OnOk, OnErr, Some, ◌<◌, filter, length, slice_index_or, sum_by};
+ghost use Rattle.std.specs.Prelude.{◌≡◌, ◌+◌, ◌↔◌, ◌++◌, ◌∷◌, [], ℕ, All, OnOk, OnErr, Some, ◌<◌, ◌^◌, filter, length, slice_index_or, sum_by};
 ghost use Rattle.work_queue.specs.Queue.{HasDistinctPromises, HasPromise, HasRoom, Promise, is_for_other, promised};
 
 use adlb_unit::UnitId;
@@ -49,7 +49,8 @@ impl Rooms {
     }
 
     pub(crate) fn len(&self) -> usize
-        ensures { result ≡ length self.now }
+        ensures len { result ≡ length self.now }
+        ensures few { result < 2 ^ 63 }
     {
         self.kept.len()
     }

@@ -4,10 +4,10 @@ use Rattle.work_queue.proofs.indexing.run_at.Goals as goal
 
 pub overflow_sub-end : goal.overflow_sub-end
 overflow_sub-end c =
-    let on = run_goes_on c.args.entries.now.items c.args.place c.run_end-end.result c.index.result.now c.requires.order c.requires.there
-    c.index.ensures c.run_end-end.ensures.point in
+    let on = run_goes_on c.args.entries.now.items c.args.place c.run_end-end.result c.at-first.result c.requires.order c.requires.there
+    c.at-first.ensures c.run_end-end.ensures.point in
     omega (arith, on)
 
 pub returns : goal.returns
-returns c = is_run c.args.entries.now.items c.args.place c.run_end-end.result c.index.result.now c.requires.order c.requires.there
-    c.index.ensures c.run_end-end.ensures.point c.index-2.result.now c.index-2.ensures c.run_end-end.ensures.within
+returns c = is_run c.args.entries.now.items c.args.place c.run_end-end.result c.at-first.result c.requires.order c.requires.there
+    c.at-first.ensures c.run_end-end.ensures.point c.at.result c.at.ensures c.run_end-end.ensures.within

@@ -1,5 +1,4 @@
 use Rattle.std.proofs.Common.{◌≡◌, ◌≤◌, ◌+◌, ◌++◌, ◌∷◌, [], ap, ◌∙◌, refl, sym, subst, arith, rules, length}
-use Rattle.std.specs.VecDeque.{deque_capacity, deque_len}
 use Rattle.std.proofs.lemmas.List.{length-append}
 use Rattle.std.proofs.lemmas.List.Sums.{sum_by_push}
 use Rattle.slab.specs.Slab.{HasRoomFor, slab_len}
@@ -19,8 +18,8 @@ invariant_of-self-2 c =
     let long : length c.add.new.self ≡ length w.rooms + 1 = ap (λ l. length l) added ∙ length-append w.rooms (room ∷ []) in
     let slots : HasRoomFor c.make_room-grown.new.slots (c.len-more.result + 1) = search rules in
     let keys : length c.make_room-grown.new.order.items + (c.len-more.result + 1) ≤ c.make_room-grown.new.order.capacity = search rules in
-    let entries : deque_len c.make_room-grown.new.index.entries + (c.len-more.result + 1)
-    ≤ deque_capacity c.make_room-grown.new.index.entries = search rules in
+    let entries : length c.make_room-grown.new.index.entries.items + (c.len-more.result + 1) ≤ c.make_room-grown.new.index.entries.capacity =
+    search rules in
     let stamps : length c.make_room-grown.new.index.stamps.items + (c.len-more.result + 1) ≤ c.make_room-grown.new.index.stamps.capacity =
     search rules in
     let names : c.len-more.result + 1 ≤ spare_in c.make_room-grown.new.names = search rules in
@@ -55,7 +54,7 @@ invariant_of-self c = sound_grown c.self.inside _ c.self.invariant (record {
   arrivals = refl;
   slots_room = let same = ap (λ s. slab_len s) c.make_room-grown.ensures.slots in omega (arith, same);
   order_room = let same = ap (λ l. length l) c.make_room-grown.ensures.items in omega (arith, same);
-  entries_room = omega arith;
+  entries_room = let same = ap (λ l. length l) c.make_room-grown.ensures.entries in omega (arith, same);
   stamps_room = let same = ap (λ l. length l) c.make_room-grown.ensures.stamps in omega (arith, same);
   names_room = omega arith;
 }) refl refl refl refl
@@ -74,7 +73,7 @@ invariant_of-self-then-is_err-2 c =
       arrivals = refl;
       slots_room = omega (arith, same, long);
       order_room = let keys = ap (λ l. length l) c.make_room-grown.ensures.items in omega (arith, long, keys);
-      entries_room = omega (arith, long);
+      entries_room = let listed = ap (λ l. length l) c.make_room-grown.ensures.entries in omega (arith, long, listed);
       stamps_room = let stamps = ap (λ l. length l) c.make_room-grown.ensures.stamps in omega (arith, long, stamps);
       names_room = omega (arith, long);
     }) rooms refl refl refl
