@@ -194,27 +194,33 @@ fn letter(alloc: Global, stamp: u64, says: Says) -> Result<Letter, Fail> {
 }
 
 // The client begins a call that it is ready for.
-fn begin(alloc: Global, client: &mut ClientCore, makes: Makes) -> Result<ClientStep, Fail> {
+fn begin(
+    alloc: Global,
+    client: &mut ClientCore,
+    step: &mut ClientStep,
+    makes: Makes,
+) -> Result<(), Fail> {
     let call = call(alloc, makes)?;
     if !client.ready(&call) {
         return Err("not ready".into());
     }
-    Ok(client.begin(call)?)
+    Ok(client.begin(step, call)?)
 }
 
 // The client hears a letter that it expects.
 fn hear(
     alloc: Global,
     client: &mut ClientCore,
+    step: &mut ClientStep,
     from: u32,
     stamp: u64,
     says: Says,
-) -> Result<ClientStep, Fail> {
+) -> Result<(), Fail> {
     let letter = letter(alloc, stamp, says)?;
     if !client.expects(Server(from), &letter) {
         return Err("not expected".into());
     }
-    Ok(client.hear(Server(from), letter)?)
+    Ok(client.hear(step, Server(from), letter)?)
 }
 
 fn is_ready(alloc: Global, client: &ClientCore, makes: Makes) -> Result<String, Fail> {
@@ -346,10 +352,10 @@ impl Told {
     }
 }
 
-fn given(alloc: Global, told: &mut Told, step: ClientStep) -> Result<String, Fail> {
+fn given(alloc: Global, told: &mut Told, step: &mut ClientStep) -> Result<String, Fail> {
     let mut all = String::new(alloc);
-    add_step(&mut all, &step)?;
-    told.hear(step.answer);
+    add_step(&mut all, step)?;
+    told.hear(mem::replace(&mut step.answer, None));
     Ok(all)
 }
 
@@ -357,17 +363,19 @@ fn given(alloc: Global, told: &mut Told, step: ClientStep) -> Result<String, Fai
 fn shown(
     alloc: Global,
     client: &mut ClientCore,
+    step: &mut ClientStep,
     told: &mut Told,
     line: Line,
 ) -> Result<String, Fail> {
     match line {
         Line::Begins(makes) => {
-            let step = begin(alloc, client, makes)?;
+            begin(alloc, client, step, makes)?;
             told.begun = Some(makes);
             given(alloc, told, step)
         }
         Line::Hears(from, stamp, says) => {
-            given(alloc, told, hear(alloc, client, from, stamp, says)?)
+            hear(alloc, client, step, from, stamp, says)?;
+            given(alloc, told, step)
         }
         Line::IsReady(makes) => is_ready(alloc, client, makes),
         Line::Expects(from, stamp, says) => expects(alloc, client, from, stamp, says),
@@ -404,8 +412,9 @@ fn go_through(
     scene: &[(Line, &str)],
 ) -> Result<(), Fail> {
     let mut told = Told::nothing();
+    let mut step = ClientStep::new(alloc)?;
     for (at, (line, expected)) in scene.iter().enumerate() {
-        let given = shown(alloc, client, &mut told, *line)?;
+        let given = shown(alloc, client, &mut step, &mut told, *line)?;
         assert_eq!(rt; given.as_str(), *expected, "line {at}");
     }
     Ok(())

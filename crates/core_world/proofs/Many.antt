@@ -12,7 +12,7 @@ use Rattle.core_run.specs.declared.events.Event.{Event}
 use Rattle.core_world.specs.Applied.{Stops, event_stamp, fault_of, front_stamp}
 use Rattle.core_world.specs.Stage.{IsReached}
 use Rattle.core_world.specs.declared.faults.ApplyFault.{ApplyFault}
-use Rattle.std.proofs.Common.{Bool, Err, List, Ok, [], ap, arith, cond, false, length, refl, sym, true, ℕ, ◌&&◌, ◌+◌, ◌<◌, ◌^◌, ◌∙◌, ◌∷◌}
+use Rattle.std.proofs.Common.{Bool, Err, List, Ok, [], ap, arith, cond, false, length, refl, sym, true, ℕ, ◌&&◌, ◌+◌, ◌^◌, ◌∙◌, ◌∷◌}
 use Rattle.std.proofs.Common.{◌≡◌, ◌≤◌}
 use Rattle.std.proofs.lemmas.Bool.{and_parts}
 use Rattle.std.specs.Prelude.{Result}

@@ -5,7 +5,7 @@ use Rattle.core_progress_law.proofs.Always.{dead_ends}
 use Rattle.core_run.specs.World.{World, happens, has_ended, pool_of}
 use Rattle.core_run.specs.declared.events.Event.{Event}
 use Rattle.core_world.specs.Stage.{IsReached}
-use Rattle.std.proofs.Common.{Bool, IsTrue, None, true, ◌<◌, ◌^◌, ◌∙◌, ◌≡◌}
+use Rattle.std.proofs.Common.{Bool, IsTrue, None, ◌<◌, ◌^◌, ◌∙◌, ◌≡◌}
 
 -- where nothing can happen, each server has ended, unless 2^34 calls were begun
 pub rested : (w : World) (b : Bool) (server : Server) → IsReached w → server.0 < w.config.servers → b ≡ has_ended (pool_of w server)

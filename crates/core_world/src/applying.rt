@@ -69,7 +69,7 @@ impl World {
         ensures stops { IfErr result (λ trouble. Stops self.old.world event trouble self.new.world) }
         ensures config { self.new.world.config ≡ self.old.world.config }
     {
-        match self.stage.carry_out(event) {
+        match self.stage.carry_out(&mut self.step, event) {
             Ok(answer) => Ok(answer),
             Err(trouble) => {
                 self.trouble = Some(trouble);

@@ -1,6 +1,7 @@
 //! The letters that are under way, from each actor to each actor.
 
 ghost use Rattle.std.specs.Prelude.{◌≡◌, ◌++◌, ◌∷◌, [], List, length, replicate, slice_index_or, slice_set, IfOk, OnOk, MatchOption};
+ghost use Rattle.std.specs.Vec.{vec_capacity};
 ghost use Rattle.adlb_unit.specs.Links.{place_of};
 ghost use Rattle.adlb_unit.specs.declared.letters.Letter.{Letter};
 ghost use Rattle.core_run.specs.World.{link, post, put_link};
@@ -182,14 +183,16 @@ impl Links {
         Ok(())
     }
 
-    // Appends the letters that the actor of this place sends to their lists, in order, and takes them off their own.
+    // Appends the letters that the actor of this place sends to their lists, in order, and takes them off their own, which keeps
+    // its room.
     pub(crate) fn post(
         &mut self,
         config: &Config,
         from: usize,
         sends: &mut Vec<Sending>,
     ) -> Result<(), NoMemory>
-        ensures { OnOk result (self.new ≡ post config.now self.old from sends.old.items) }
+        ensures posted { OnOk result (self.new ≡ post config.now self.old from sends.old.items) }
+        ensures room { vec_capacity sends.new ≡ vec_capacity sends.old }
     {
         for sending in sends.drain(..) {
             let Sending { to, letter } = sending;

@@ -13,6 +13,7 @@ use adlb_unit::{Actor, Config, NoMemory, Rank, Server, Trouble};
 use bag_ledger::Said;
 use ghost_list::Trace;
 use packed_ledger::Ledger;
+use rank_client::ClientStep;
 use server_core::LeftUnit;
 use std::alloc::Global;
 use std::marker::Model;
@@ -22,6 +23,8 @@ use std::marker::Model;
 #[derive(Drop)]
 pub struct World {
     pub(crate) stage: Stage,
+    // What an event of a rank gave last, which is lent to the next.
+    pub(crate) step: ClientStep,
     pub(crate) trouble: Option<Trouble>,
 }
 
@@ -42,8 +45,10 @@ impl World {
     pub fn new(alloc: Global, config: Config) -> Result<World, NoMemory>
         ensures { IfOk result (λ w. w ≡ new_world config) }
     {
+        let step = ClientStep::new(alloc)?;
         Ok(World {
             stage: Stage::new(alloc, config)?,
+            step,
             trouble: None,
         })
     }

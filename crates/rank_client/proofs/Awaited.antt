@@ -68,9 +68,7 @@ waiting_inside i pending room sent to inside fresh there busy has is =
       finish = λ going. let could = inside.finish going in record {
         ids = omega (arith, could.ids, busy, few);
         letters = could.letters;
-        entry = could.entry;
         unsent = could.unsent;
-        unmade = could.unmade;
       };
     }
 
@@ -123,9 +121,7 @@ ended_inside i change pending room batch accepted end handles said more inside f
       finish = λ going. let could = inside.finish going in record {
         ids = omega (arith, could.ids, busy, none, ids);
         letters = could.letters;
-        entry = could.entry;
         unsent = could.unsent;
-        unmade = could.unmade;
       };
     }
 

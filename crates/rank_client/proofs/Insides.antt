@@ -86,9 +86,7 @@ asks_inside i pending room puts sent handles before spent said to inside fresh m
       finish = λ going. let could = inside.finish going in record {
         ids = omega (arith, ids, few);
         letters = could.letters;
-        entry = could.entry;
         unsent = could.unsent;
-        unmade = could.unmade;
       };
     }
 
@@ -113,9 +111,7 @@ over_inside i puts handles before spent said between more_said inside fresh free
       finish = λ going. let could = inside.finish going in record {
         ids = omega (arith, none, ids, four);
         letters = could.letters;
-        entry = could.entry;
         unsent = could.unsent;
-        unmade = could.unmade;
       };
     }
 

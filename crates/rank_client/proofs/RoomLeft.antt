@@ -1,6 +1,6 @@
 -- What a call that goes to one server after the other has when it goes on.
-use Rattle.std.proofs.Common.{All, ◌≡◌, ◌<◌, ◌+◌, ◌∙◌, List, [], ℕ, arith, subst, sym}
-use Rattle.std.specs.Vec.{vec_capacity, vec_len}
+use Rattle.std.proofs.Common.{All, ◌≡◌, ◌<◌, ◌+◌, ◌∙◌, List, ℕ, arith, subst, sym}
+use Rattle.std.specs.Vec.{vec_len}
 use Rattle.std.proofs.lemmas.List.Elements.{All-weaker}
 use Rattle.adlb_unit.specs.declared.configs.Config.{Config}
 use Rattle.adlb_unit.specs.declared.names.Server.{Server}
@@ -22,7 +22,7 @@ room_left config before after round next e pending has bodies left others next_i
     (subst (λ (r : Round). HasRoom config after (pending_at r e)) (sym next_is) (by_errand e has))
   where
     tries : HasTries config before round.tried → HasTries config after (round.tried + 1)
-    tries had = rw others (left, had.1, had.2)
+    tries had = left
 
     by_errand : (e : Errand) → HasRoom config before (pending_at round e) → HasRoom config after (pending_at (later round) e)
     by_errand (goes_to.Put unit) had = (tries had.0, bodies unit.body had.1, had.2)
@@ -34,13 +34,12 @@ room_left config before after round next e pending has bodies left others next_i
 pub first_room : (config : Config) (room : Room) (first : Server) (e : Errand) (body : List ℕ) (pending : Pending)
     → IsOffer e body → IsShort e
     → first.0 < config.servers → vec_len room.tries + 1 ≡ config.servers → All (λ b. b ≡ body) room.tries.items
-    → vec_capacity room.entries ≡ 1
-    → room.entries.items ≡ [] → pending ≡ pending_at (record { first = first; tried = 0 }) e → HasRoom config room pending
-first_room config room first e body pending offer short there tries bodies one none is =
+    → pending ≡ pending_at (record { first = first; tried = 0 }) e → HasRoom config room pending
+first_room config room first e body pending offer short there tries bodies is =
     subst (λ (p : Pending). HasRoom config room p) (sym is) (by_errand e offer short)
   where
     has : HasTries config room 0
-    has = (omega (arith, tries), omega (arith, one), none)
+    has = omega (arith, tries)
 
     all : (other : List ℕ) → body ≡ other → All (λ b. b ≡ other) room.tries.items
     all other same = All-weaker (λ (b : List ℕ). b ≡ body) (λ b. b ≡ other) (λ b is_body. is_body ∙ same) room.tries.items bodies

@@ -79,20 +79,18 @@ abbrev pub awaited : Pending → ℕ
 awaited waits_for.Nothing = 1
 awaited _ = 2
 
--- room to ask each server after the one that is being asked, after this number of servers were, and for an entry at the end
+-- room to ask each server after the one that is being asked, after this number of servers were
 abbrev pub HasTries : Config → Room → ℕ → Type 0
-HasTries config room tried =
-    (vec_len room.tries + tried + 1 ≡ config.servers) × (1 ≤ vec_capacity room.entries) × (room.entries.items ≡ [])
+HasTries config room tried = vec_len room.tries + tried + 1 ≡ config.servers
 
--- room for what the rest of the pending call may send, enter and keep
+-- room for what the rest of the pending call may offer
 abbrev pub HasRoom : Config → Room → Pending → Type 0
 HasRoom config room waits_for.Nothing = Prim.Unit {0}
 HasRoom config room (waits_for.Put unit first tried) =
     HasTries config room tried × All (λ body. body ≡ unit.body) room.tries.items × (first.0 < config.servers)
 HasRoom config room (waits_for.Reserve request types) = Prim.Unit {0}
 HasRoom config room (waits_for.Try request types tried) = HasTries config room tried
-HasRoom config room (waits_for.Fetch request note) =
-    (1 ≤ vec_capacity room.sends) × (room.sends.items ≡ []) × IsPlaced config note
+HasRoom config room (waits_for.Fetch request note) = IsPlaced config note
 HasRoom config room (waits_for.Common request note common own) = Prim.Unit {0}
 HasRoom config room (waits_for.Keep request common first tried) =
     HasTries config room tried × All (λ body. body ≡ common) room.tries.items × (first.0 < config.servers) × (length common ≤ body_limit)
@@ -100,13 +98,11 @@ HasRoom config room (waits_for.Close request batch) = Prim.Unit {0}
 HasRoom config room (waits_for.Count request kind) = Prim.Unit {0}
 HasRoom config room (waits_for.SetDone request tried) = HasTries config room tried
 
--- room for the ids of the calls to come, each of which names two units at most, and for the letters and the entry of Finish
+-- room for the ids of the calls to come, each of which names two units at most, and for the letters of Finish
 pub record CanFinish (i : Inside) : Type 0 where
   pub ids : awaited i.pending + awaited i.pending ≤ i.said.ids
-  pub letters : i.config.servers ≤ vec_capacity i.farewell.sends
-  pub entry : 1 ≤ vec_capacity i.farewell.entries
-  pub unsent : i.farewell.sends.items ≡ []
-  pub unmade : i.farewell.entries.items ≡ []
+  pub letters : i.config.servers ≤ vec_capacity i.farewell
+  pub unsent : i.farewell.items ≡ []
 
 -- while a call is pending there is room for the note of one more unit
 pub record IsInside (i : Inside) : Type 0 where
@@ -156,16 +152,21 @@ changed s change = record s {
   handles = handles_after s.handles change;
 }
 
+-- the list of an entry, if it is one
+abbrev pub entered : Option Entry → List Entry
+entered None = []
+entered (Some entry) = entry ∷ []
+
 -- the response that it is, if it is one
 abbrev pub response_of : ClientModel → Outcome → Option ClientResponse
-response_of s (comes_to.Ends change entries said) =
+response_of s (comes_to.Ends change entry said) =
     Some (record {
       state = answered (changed s change) said.call said.answer;
       says = [];
-      entries = entries.items;
+      entries = entered entry;
       answer = Some said.answer;
     })
-response_of s (comes_to.Waits pending to message sends) =
+response_of s (comes_to.Waits pending to message) =
     Some (record { state = record s { pending = pending }; says = record { to = to; message = message } ∷ []; entries = []; answer = None })
 response_of s comes_to.Strange = None
 
@@ -177,9 +178,8 @@ IsFit config _ = Prim.Unit {0}
 
 -- what comes of a letter is within the run, and there is room for it
 abbrev pub Fits : Config → Room → Outcome → Type 0
-Fits config room (comes_to.Ends change entries said) = IsFit config change
-Fits config room (comes_to.Waits pending to message sends) =
-    HasRoom config room pending × (to.0 < config.servers) × (1 ≤ vec_capacity sends) × (sends.items ≡ [])
+Fits config room (comes_to.Ends change entry said) = IsFit config change
+Fits config room (comes_to.Waits pending to message) = HasRoom config room pending × (to.0 < config.servers)
 Fits config room comes_to.Strange = Prim.Unit {0}
 
 -- a client at this place, of which the call is pending and which awaits the letter, hears it so

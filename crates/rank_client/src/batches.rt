@@ -95,11 +95,7 @@ pub(crate) fn hear_keep(
 {
     match message {
         Message::Accepted { .. } => begun(place, request, common, round),
-        Message::Ended { end, .. } => ended(
-            *end,
-            Vec::new(place.alloc),
-            Call::BeginBatch { common },
-        ),
+        Message::Ended { end, .. } => ended(*end, Call::BeginBatch { common }),
         Message::Full { .. } => Errand::Keep { request, common }.offer_next(place, round, room),
         _ => Outcome::Strange,
     }
@@ -123,7 +119,7 @@ fn begun(place: &Place, request: u64, common: Payload, round: Round) -> Outcome
     };
     ends(
         Change::Begun(part),
-        Vec::new(place.alloc),
+        None,
         Call::BeginBatch { common },
         Answer::Fine,
     )
@@ -140,14 +136,7 @@ pub(crate) fn hear_close(
     ensures { Hears place.now (Pending.Close request batch) message.now room.now result }
 {
     match message {
-        Message::Closed { .. } => {
-            ends(
-                Change::Closed,
-                Vec::new(place.alloc),
-                Call::EndBatch,
-                Answer::Fine,
-            )
-        }
+        Message::Closed { .. } => { ends(Change::Closed, None, Call::EndBatch, Answer::Fine) }
         _ => Outcome::Strange,
     }
 }

@@ -15,7 +15,7 @@ use crate::clients::{ClientCore, write};
 use crate::fetches::spend;
 use crate::openings::{First, Opening};
 use crate::pendings::Pending;
-use crate::rooms::{Farewell, Room};
+use crate::rooms::Room;
 use crate::said::Transcript;
 use crate::steps::ClientStep;
 use adlb_unit::{
@@ -23,26 +23,10 @@ use adlb_unit::{
     or_no_memory,
 };
 use bag_ledger::{Answer, Call, Entry, Said};
-use std::alloc::Global;
 use std::mem;
 
-// A list with room for `room` elements.
-pub(crate) fn with_room<T>(alloc: Global, room: usize) -> Result<Vec<T>, NoMemory>
-    ensures items { IfOk result (λ v. v.items ≡ []) }
-    ensures room { IfOk result (λ v. vec_capacity v ≡ room) }
-{
-    or_no_memory(Vec::with_capacity(alloc, room))
-}
-
-// The lists of a call's beginning, with room for one letter and two entries. The ids of its units have room among those of the
-// transcript, and a unit that is granted among those that are held.
-fn asking(
-    alloc: Global,
-    said: &mut Transcript,
-    handles: &mut Vec<UnitNote>,
-) -> Result<(Vec<Sending>, Vec<Entry>), NoMemory>
-    ensures sends { IfOk result (λ lists. (lists.0.items ≡ []) × (vec_capacity lists.0 ≡ 1)) }
-    ensures entries { IfOk result (λ lists. (lists.1.items ≡ []) × (vec_capacity lists.1 ≡ 2)) }
+// The ids of a call's units have room among those of the transcript, and a unit that is granted among those that are held.
+fn asking(said: &mut Transcript, handles: &mut Vec<UnitNote>) -> Result<(), NoMemory>
     ensures said { said.new.items ≡ said.old.items }
     ensures ids { OnOk result (4 ≤ said.new.ids) }
     ensures no_fewer_ids { said.old.ids ≤ said.new.ids }
@@ -50,11 +34,8 @@ fn asking(
     ensures held { OnOk result (vec_len handles.new + 1 ≤ vec_capacity handles.new) }
     ensures no_less { vec_capacity handles.old ≤ vec_capacity handles.new }
 {
-    let sends = with_room(alloc, 1)?;
-    let entries = with_room(alloc, 2)?;
     said.make_room()?;
-    or_no_memory(handles.reserve(1))?;
-    Ok((sends, entries))
+    or_no_memory(handles.reserve(1))
 }
 
 // Writes a Finish letter to each server, from 0 on.
@@ -67,6 +48,7 @@ fn farewells(sent: &mut Vec<u64>, stamp: u64, servers: u32, sends: Vec<Sending>)
         post x (map farewell (range_with_len 0 servers)) ≡ record x { state = record x.state { sent = sent.new.items }; sends = result.items } }
     ensures counts { All (λ n. n ≤ stamp) sent.new.items }
     ensures len { length sent.new.items ≡ servers }
+    ensures room { servers ≤ vec_capacity result }
 {
     let mut sends = sends;
     for server in 0..servers {
@@ -108,22 +90,23 @@ impl ClientCore {
 
 impl ClientCore {
     // The call begins.
-    fn open(&mut self, opening: Opening) -> Result<ClientStep, NoMemory>
+    fn open(&mut self, step: &mut ClientStep, opening: Opening) -> Result<(), NoMemory>
         requires free { is_free self.old ≡ true }
         requires fresh { IsFresh self.old }
         requires opens { Opens self.old opening }
-        ensures ok { IfOk result (λ x. made (opened self.old opening) ≡ gives self.new x) }
-        ensures stamp { IfOk result (λ x. x.stamp ≡ self.new.clock) }
+        ensures ok { OnOk result (made (opened self.old opening) ≡ gives self.new step.new) }
+        ensures stamp { OnOk result (step.new.stamp ≡ self.new.clock) }
         ensures err { OnErr result (self.new ≡ self.old) }
     {
-        let (mut sends, mut entries) = asking(self.alloc, &mut self.said, &mut self.handles)?;
+        asking(&mut self.said, &mut self.handles)?;
         let Opening {
             puts,
             spent,
             entry,
             first,
         } = opening;
-        entries.push_reserved(entry);
+        step.empty(self.clock);
+        step.entries.push_reserved(entry);
         spend(&mut self.handles, spent);
         self.puts = puts;
         match first {
@@ -133,19 +116,14 @@ impl ClientCore {
                 pending,
                 room,
             } => {
-                sends.push_reserved(write(&mut self.sent, self.clock, to, message));
+                step.sends
+                    .push_reserved(write(&mut self.sent, self.clock, to, message));
                 self.next += 1;
                 drop(mem::replace(&mut self.pending, pending));
                 drop(mem::replace(&mut self.room, room));
-                Ok(ClientStep {
-                    stamp: self.clock,
-                    sends,
-                    entries,
-                    answer: None,
-                })
             }
             First::Over { call, end } => {
-                entries.push_reserved(Entry::Over {
+                step.entries.push_reserved(Entry::Over {
                     rank: self.me,
                     call: self.next,
                     end,
@@ -153,14 +131,10 @@ impl ClientCore {
                 self.next += 1;
                 let answer = Answer::Ended(end);
                 self.said.add(&Said { call, answer });
-                Ok(ClientStep {
-                    stamp: self.clock,
-                    sends,
-                    entries,
-                    answer: Some(Answer::Ended(end)),
-                })
+                drop(mem::replace(&mut step.answer, Some(Answer::Ended(end))));
             }
         }
+        Ok(())
     }
 
     // Asks the home for a unit.
@@ -199,18 +173,14 @@ impl ClientCore {
     }
 
     // Tells each server that the rank has finished. It takes no memory.
-    fn finish(&mut self) -> ClientStep
+    fn finish(&mut self, step: &mut ClientStep)
         requires free { is_free self.old ≡ true }
         requires fresh { IsFresh self.old }
-        ensures ok { made (finish self.old) ≡ gives self.new result }
-        ensures stamp { result.stamp ≡ self.new.clock }
+        ensures ok { made (finish self.old) ≡ gives self.new step.new }
+        ensures stamp { step.new.stamp ≡ self.new.clock }
     {
-        let none = Farewell {
-            sends: Vec::new(self.alloc),
-            entries: Vec::new(self.alloc),
-        };
-        let Farewell { sends, mut entries } = mem::replace(&mut self.farewell, none);
-        entries.push_reserved(Entry::Finished {
+        step.empty(self.clock);
+        step.entries.push_reserved(Entry::Finished {
             rank: self.me,
             call: self.next,
         });
@@ -220,25 +190,23 @@ impl ClientCore {
             call: Call::Finish,
             answer: Answer::Fine,
         });
+        let sends = mem::replace(&mut self.farewell, Vec::new(self.alloc));
         let sends = farewells(&mut self.sent, self.clock, self.config.servers, sends);
-        ClientStep {
-            stamp: self.clock,
-            sends,
-            entries,
-            answer: Some(Answer::Fine),
-        }
+        drop(mem::replace(&mut step.sends, sends));
+        drop(mem::replace(&mut step.answer, Some(Answer::Fine)));
     }
 }
 
 impl ClientCore {
-    /// Begins a call for which the rank is ready, as `begin` says. All growth of the whole call is made here. A client that has
-    /// failed gives its trouble again; otherwise `TooLong` comes exactly when the event's stamp would reach `2^48`. The only other
-    /// error is `Memory`, and never at Finish, which takes none. After a failure nothing else has changed.
-    pub fn begin(&mut self, call: Call) -> Result<ClientStep, Trouble>
+    /// Begins a call for which the rank is ready, as `begin` says. What it gives is in the step that it is lent. All growth of the
+    /// whole call is made here. A client that has failed gives its trouble again; otherwise `TooLong` comes exactly when the event's
+    /// stamp would reach `2^48`. The only other error is `Memory`, and never at Finish, which takes none. After a failure nothing
+    /// else of the client has changed.
+    pub fn begin(&mut self, step: &mut ClientStep, call: Call) -> Result<(), Trouble>
         requires ready { IsSome (begin self.old call) }
 
-        ensures begun { IfOk result (λ x. begin self.old call ≡ Some (gives self.new x)) }
-        ensures stamp { IfOk result (λ x. x.stamp ≡ self.new.clock) }
+        ensures begun { OnOk result (begin self.old call ≡ Some (gives self.new step.new)) }
+        ensures stamp { OnOk result (step.new.stamp ≡ self.new.clock) }
 
         // When it fails, and what is left then.
         ensures whole { OnOk result (call_trouble self.old ≡ None) }
@@ -251,8 +219,8 @@ impl ClientCore {
             Ok(stamp) => self.clock = stamp,
             Err(trouble) => return Err(self.fail(trouble)),
         }
-        match self.carry_out(call) {
-            Ok(step) => Ok(step),
+        match self.carry_out(step, call) {
+            Ok(()) => Ok(()),
             Err(NoMemory) => {
                 self.clock = before;
                 Err(self.fail(Trouble::Memory))
@@ -277,18 +245,18 @@ impl ClientCore {
     }
 
     // Begins the call in an event that has its stamp.
-    fn carry_out(&mut self, call: Call) -> Result<ClientStep, NoMemory>
+    fn carry_out(&mut self, step: &mut ClientStep, call: Call) -> Result<(), NoMemory>
         requires free { is_free self.old ≡ true }
         requires fresh { IsFresh self.old }
         requires ready { IsSome (open_call self.old call) }
-        ensures ok { IfOk result (λ x. option_map made (open_call self.old call) ≡ Some (gives self.new x)) }
-        ensures stamp { IfOk result (λ x. x.stamp ≡ self.new.clock) }
+        ensures ok { OnOk result (option_map made (open_call self.old call) ≡ Some (gives self.new step.new)) }
+        ensures stamp { OnOk result (step.new.stamp ≡ self.new.clock) }
         ensures err { OnErr result (self.new ≡ self.old) }
         ensures finish { OnErr result (is_finish call ≡ false) }
     {
         match self.opening(call)? {
-            Some(opening) => self.open(opening),
-            None => Ok(self.finish()),
+            Some(opening) => self.open(step, opening),
+            None => Ok(self.finish(step)),
         }
     }
 
@@ -315,7 +283,7 @@ impl ClientCore {
             Call::Reserve { types } => Ok(Some(self.reserve(types))),
             Call::Try { types } => Ok(Some(self.look(types)?)),
             Call::Fetch { id } => match self.held(id) {
-                Some(note) => Ok(Some(self.fetch(id, note)?)),
+                Some(note) => Ok(Some(self.fetch(id, note))),
                 None => Ok(None),
             },
             Call::BeginBatch { common } => Ok(Some(self.keep(common)?)),

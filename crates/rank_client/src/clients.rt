@@ -11,7 +11,7 @@ ghost use Rattle.rank_client.specs.Step.{first_trouble};
 ghost use Rattle.adlb_unit.specs.Ring.{behind};
 
 use crate::pendings::Pending;
-use crate::rooms::{Farewell, Room};
+use crate::rooms::Room;
 use crate::said::Transcript;
 use adlb_unit::{
     Actor, CommonRef, Config, End, Letter, Message, NoMemory, Rank, Sending, Server, Trouble,
@@ -40,7 +40,8 @@ pub struct ClientCore {
     pub(crate) finished: bool,
     pub(crate) said: Transcript,
     pub(crate) trouble: Option<Trouble>,
-    pub(crate) farewell: Farewell,
+    // Room for the letters of Finish.
+    pub(crate) farewell: Vec<Sending>,
     pub(crate) alloc: Global,
 }
 
@@ -64,7 +65,7 @@ impl ClientCore {
     {
         let servers = config.servers as usize;
         let said = Transcript::new(alloc)?;
-        let farewell = Farewell::new(alloc, servers)?;
+        let farewell = or_no_memory(Vec::with_capacity(alloc, servers))?;
         let sent = or_no_memory(vec![in alloc; 0; servers])?;
         Ok(ClientCore {
             config,

@@ -51,7 +51,7 @@ pub(crate) fn hear_count(
     match message {
         Message::Counted { info, .. } => ends(
             Change::Keeps,
-            Vec::new(place.alloc),
+            None,
             Call::Count { kind },
             Answer::Info(*info),
         ),

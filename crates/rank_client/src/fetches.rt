@@ -1,24 +1,22 @@
 //! What a client does to fetch the bytes of a unit: the unit's own, and those of its common part, if it has one.
 
-ghost use Rattle.std.specs.Prelude.{◌≡◌, ◌≤◌, [], filter, not, Some, IfOk};
+ghost use Rattle.std.specs.Prelude.{◌≡◌, ◌≤◌, filter, not, Some};
 ghost use Rattle.std.specs.Vec.{vec_len, vec_capacity};
 ghost use Rattle.adlb_unit.specs.Ids.{same_unit};
-ghost use Rattle.rank_client.specs.inside.{Fits, HasRoom, Hears, Opens, opened, response_of, unspent};
+ghost use Rattle.adlb_unit.specs.declared.configs.Config.{Config};
+ghost use Rattle.rank_client.specs.inside.{Fits, HasRoom, Hears, IsPlaced, Opens, opened, response_of, unspent};
 ghost use Rattle.rank_client.specs.Rules.{fetched, held, own_came};
 ghost use Rattle.rank_client.specs.State.{ClientModel};
 ghost use Rattle.rank_client.specs.declared.pendings.Pending.{Pending};
 ghost use Rattle.rank_client.specs.declared.rooms.Room.{Room};
 
-use crate::calls::with_room;
 use crate::clients::ClientCore;
 use crate::openings::{First, Opening};
 use crate::outcomes::{Change, Outcome, Place, ends};
 use crate::pendings::Pending;
 use crate::rooms::Room;
-use adlb_unit::{CommonRef, Message, NoMemory, Payload, UnitId, UnitNote};
+use adlb_unit::{CommonRef, Message, Payload, UnitId, UnitNote};
 use bag_ledger::{Answer, Body, Call, Entry};
-use std::alloc::Global;
-use std::mem;
 
 // Takes the note of this unit out of the list.
 fn drop_note(handles: &mut Vec<UnitNote>, id: UnitId)
@@ -51,13 +49,13 @@ pub(crate) fn spend(handles: &mut Vec<UnitNote>, spent: Option<UnitId>)
 
 impl ClientCore {
     // Asks the unit's server for its bytes.
-    pub(crate) fn fetch(&self, id: UnitId, note: UnitNote) -> Result<Opening, NoMemory>
+    pub(crate) fn fetch(&self, id: UnitId, note: UnitNote) -> Opening
         requires held { held self.now id ≡ Some note }
-        ensures ok { IfOk result (λ o. opened self.now o ≡ fetched self.now id note) }
-        ensures opens { IfOk result (λ o. Opens self.now o) }
+        ensures ok { opened self.now result ≡ fetched self.now id note }
+        ensures opens { Opens self.now result }
     {
         let request = self.next;
-        Ok(Opening {
+        Opening {
             puts: self.puts,
             spent: Some(id),
             entry: Entry::Fetching {
@@ -69,20 +67,10 @@ impl ClientCore {
                 to: note.server,
                 message: Message::Fetch { request, id },
                 pending: Pending::Fetch { request, note },
-                room: part_room(self.alloc)?,
+                room: Room::none(self.alloc),
             },
-        })
+        }
     }
-}
-
-// Room for the letter that asks for the common part.
-fn part_room(alloc: Global) -> Result<Room, NoMemory>
-    ensures sends { IfOk result (λ r. (1 ≤ vec_capacity r.sends) × (r.sends.items ≡ [])) }
-{
-    Ok(Room {
-        sends: with_room(alloc, 1)?,
-        ..Room::none(alloc)
-    })
 }
 
 // What a letter makes of the fetch: the unit's server gives its own bytes.
@@ -90,28 +78,27 @@ pub(crate) fn hear_fetch(
     place: &Place,
     request: u64,
     note: UnitNote,
-    room: &mut Room,
+    room: &Room,
     message: Message,
 ) -> Outcome
-    requires room { HasRoom place.now.config room.old (Pending.Fetch request note) }
-    ensures { Hears place.now (Pending.Fetch request note) message room.new result }
+    requires room { HasRoom place.now.config room.now (Pending.Fetch request note) }
+    ensures { Hears place.now (Pending.Fetch request note) message room.now result }
 {
     match message {
-        Message::Bytes { body, .. } => own_bytes(place, request, note, room, body),
+        Message::Bytes { body, .. } => own_bytes(request, note, body),
         _ => Outcome::Strange,
     }
 }
 
 // The own bytes of the unit are all, or they stay until the common ones come, for which their server is asked.
-fn own_bytes(place: &Place, request: u64, note: UnitNote, room: &mut Room, own: Payload) -> Outcome
-    requires room { HasRoom place.now.config room.old (Pending.Fetch request note) }
+fn own_bytes(request: u64, note: UnitNote, own: Payload) -> Outcome
     ensures response { (s : ClientModel) → response_of s result ≡ Some (own_came s request note own note.common) }
-    ensures fits { Fits place.now.config room.new result }
+    ensures fits { (config : Config) (room : Room) → IsPlaced config note → Fits config room result }
 {
     match note.common {
         None => ends(
             Change::Keeps,
-            Vec::new(place.alloc),
+            None,
             Call::Fetch { id: note.id },
             Answer::Body(Body::alone(own)),
         ),
@@ -127,7 +114,6 @@ fn own_bytes(place: &Place, request: u64, note: UnitNote, room: &mut Room, own: 
                 request,
                 batch: common.batch,
             },
-            sends: mem::replace(&mut room.sends, Vec::new(place.alloc)),
         },
     }
 }
@@ -148,7 +134,7 @@ pub(crate) fn hear_common(
     match message {
         Message::Bytes { body, .. } => ends(
             Change::Keeps,
-            Vec::new(place.alloc),
+            None,
             Call::Fetch { id: note.id },
             Answer::Body(Body::joined(body, own)),
         ),

@@ -1,9 +1,10 @@
 //! What a client does with a letter.
 
-ghost use Rattle.std.specs.Prelude.{◌≡◌, ◌⊎◌, ◌<◌, ◌≤◌, ◌+◌, false, None, Some, IsSome, IfOk, IfErr, OnOk};
+ghost use Rattle.std.specs.Prelude.{◌≡◌, ◌⊎◌, ◌<◌, ◌≤◌, ◌+◌, [], false, None, Some, IsSome, IfOk, IfErr, OnOk};
 ghost use Rattle.std.specs.Option.{option_map};
+ghost use Rattle.std.specs.Vec.{vec_capacity};
 ghost use Rattle.adlb_unit.specs.Limits.{stamp_limit};
-ghost use Rattle.rank_client.specs.inside.{HasRoom, Hears, IsFresh, gives};
+ghost use Rattle.rank_client.specs.inside.{HasRoom, Hears, IsFresh, entered, gives};
 ghost use Rattle.rank_client.specs.Rules.{answer_call};
 ghost use Rattle.rank_client.specs.Step.{hear, letter_stamp, letter_trouble, made, told_trouble};
 
@@ -20,18 +21,24 @@ use crate::rooms::Room;
 use crate::rounds::Round;
 use crate::steps::ClientStep;
 use adlb_unit::{Letter, Message, STAMP_LIMIT, Server, Trouble};
-use bag_ledger::{Answer, Said};
+use bag_ledger::{Answer, Entry, Said};
 use std::mem;
 
 impl ClientCore {
-    /// Hears a letter, as `hear` says: the pending call awaits it, or it says that its server has failed. It takes no memory. A
-    /// client that has failed gives its trouble again; otherwise it fails with the trouble that the letter tells, or with `TooLong`
-    /// if the event's stamp would reach `2^48` (`letter_trouble`). After a failure nothing else has changed.
-    pub fn hear(&mut self, from: Server, letter: Letter) -> Result<ClientStep, Trouble>
+    /// Hears a letter, as `hear` says: the pending call awaits it, or it says that its server has failed. What it gives is in the
+    /// step that it is lent. It takes no memory. A client that has failed gives its trouble again; otherwise it fails with the
+    /// trouble that the letter tells, or with `TooLong` if the event's stamp would reach `2^48` (`letter_trouble`). After a failure
+    /// nothing else of the client has changed.
+    pub fn hear(
+        &mut self,
+        step: &mut ClientStep,
+        from: Server,
+        letter: Letter,
+    ) -> Result<(), Trouble>
         requires expected { IsSome (told_trouble letter.message) ⊎ IsSome (hear self.old from letter) }
 
-        ensures heard { IfOk result (λ x. hear self.old from letter ≡ Some (gives self.new x)) }
-        ensures stamp { IfOk result (λ x. x.stamp ≡ self.new.clock) }
+        ensures heard { OnOk result (hear self.old from letter ≡ Some (gives self.new step.new)) }
+        ensures stamp { OnOk result (step.new.stamp ≡ self.new.clock) }
 
         // When it fails, and what is left then.
         ensures whole { OnOk result (letter_trouble self.old letter ≡ None) }
@@ -41,7 +48,7 @@ impl ClientCore {
         match self.letter_stamp(&letter) {
             Ok(stamp) => {
                 self.clock = stamp;
-                Ok(self.take_in(from, letter.message))
+                Ok(self.take_in(step, from, letter.message))
             }
             Err(trouble) => Err(self.fail(trouble)),
         }
@@ -69,23 +76,23 @@ impl ClientCore {
     }
 
     // Hears what the letter says in an event that has its stamp.
-    fn take_in(&mut self, from: Server, message: Message) -> ClientStep
+    fn take_in(&mut self, step: &mut ClientStep, from: Server, message: Message)
         requires going { self.old.finished ≡ false }
         requires fresh { IsFresh self.old }
         requires expected { IsSome (answer_call self.old self.old.pending from message) }
-        ensures ok { option_map made (answer_call self.old self.old.pending from message) ≡ Some (gives self.new result) }
-        ensures stamp { result.stamp ≡ self.new.clock }
+        ensures ok { option_map made (answer_call self.old self.old.pending from message) ≡ Some (gives self.new step.new) }
+        ensures stamp { step.new.stamp ≡ self.new.clock }
     {
         let place = Place {
             config: self.config,
             me: self.me,
-            alloc: self.alloc,
         };
+        step.empty(self.clock);
         let pending = mem::replace(&mut self.pending, Pending::Nothing);
         match heard(&place, pending, &mut self.room, message) {
             Outcome::Ends {
                 change,
-                entries,
+                entry,
                 said,
             } => {
                 make_change(
@@ -96,30 +103,32 @@ impl ClientCore {
                     change,
                 );
                 self.said.add(&said);
-                ClientStep {
-                    stamp: self.clock,
-                    sends: Vec::new(self.alloc),
-                    entries,
-                    answer: Some(answer_of(said)),
-                }
+                enter(&mut step.entries, entry);
+                drop(mem::replace(&mut step.answer, Some(answer_of(said))));
             }
             Outcome::Waits {
                 pending,
                 to,
                 message,
-                mut sends,
             } => {
-                sends.push_reserved(write(&mut self.sent, self.clock, to, message));
+                step.sends
+                    .push_reserved(write(&mut self.sent, self.clock, to, message));
                 drop(mem::replace(&mut self.pending, pending));
-                ClientStep {
-                    stamp: self.clock,
-                    sends,
-                    entries: Vec::new(self.alloc),
-                    answer: None,
-                }
             }
             Outcome::Strange => unreachable!(),
         }
+    }
+}
+
+// Enters this entry, if it is one, in a list that has none and has room.
+fn enter(entries: &mut Vec<Entry>, entry: Option<Entry>)
+    requires none { entries.old.items ≡ [] }
+    requires room { 1 ≤ vec_capacity entries.old }
+    ensures entered { entries.new.items ≡ entered entry }
+    ensures room { vec_capacity entries.new ≡ vec_capacity entries.old }
+{
+    if let Some(entry) = entry {
+        entries.push_reserved(entry);
     }
 }
 

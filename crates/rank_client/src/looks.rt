@@ -59,8 +59,8 @@ pub(crate) fn hear_look(
 {
     let round = Round::from_home(&place.config, place.me, tried);
     match message {
-        Message::Grant { note, .. } => granted(place.alloc, Call::Try { types }, *note),
-        Message::Ended { end, .. } => ended(*end, Vec::new(place.alloc), Call::Try { types }),
+        Message::Grant { note, .. } => granted(Call::Try { types }, *note),
+        Message::Ended { end, .. } => ended(*end, Call::Try { types }),
         Message::Nothing { .. } => Errand::Try { request, types }.offer_next(place, round, room),
         _ => Outcome::Strange,
     }
@@ -77,8 +77,8 @@ pub(crate) fn hear_reserve(
     ensures { Hears place.now (Pending.Reserve request types) message.now room.now result }
 {
     match message {
-        Message::Grant { note, .. } => granted(place.alloc, Call::Reserve { types }, *note),
-        Message::Ended { end, .. } => ended(*end, Vec::new(place.alloc), Call::Reserve { types }),
+        Message::Grant { note, .. } => granted(Call::Reserve { types }, *note),
+        Message::Ended { end, .. } => ended(*end, Call::Reserve { types }),
         _ => Outcome::Strange,
     }
 }

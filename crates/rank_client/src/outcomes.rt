@@ -1,6 +1,6 @@
 //! What a letter makes of the call that is pending.
 
-ghost use Rattle.std.specs.Prelude.{◌≡◌, ◌≤◌, ◌<◌, ◌+◌, ◌∷◌, ◌++◌, [], Some};
+ghost use Rattle.std.specs.Prelude.{◌≡◌, ◌≤◌, ◌<◌, ◌+◌, ◌∷◌, ◌++◌, [], None, Some};
 ghost use Rattle.std.specs.Vec.{vec_capacity, vec_len};
 ghost use Rattle.adlb_unit.specs.Limits.{stamp_limit};
 ghost use Rattle.adlb_unit.specs.declared.configs.Config.{Config};
@@ -13,16 +13,14 @@ ghost use Rattle.rank_client.specs.declared.outcomes.Outcome.{Outcome};
 ghost use Rattle.rank_client.specs.declared.rooms.Room.{Room};
 
 use crate::pendings::Pending;
-use adlb_unit::{CommonRef, Config, End, Message, Rank, Sending, Server, UnitNote};
+use adlb_unit::{CommonRef, Config, End, Message, Rank, Server, UnitNote};
 use bag_ledger::{Answer, Call, Entry, Said};
-use std::alloc::Global;
 
 // What a client is and stays.
 #[derive(Drop)]
 pub(crate) struct Place {
     pub(crate) config: Config,
     pub(crate) me: Rank,
-    pub(crate) alloc: Global,
 }
 
 // What the answer of a call changes of the client, besides the transcript.
@@ -45,18 +43,17 @@ pub(crate) enum Change {
 // What a letter makes of the call that it answers.
 #[derive(Drop)]
 pub(crate) enum Outcome {
-    // The call has its answer.
+    // The call has its answer, and one entry at most.
     Ends {
         change: Change,
-        entries: Vec<Entry>,
+        entry: Option<Entry>,
         said: Said,
     },
-    // The call waits for a letter of the server that is asked next, by a letter for which there is room.
+    // The call waits for a letter of the server that is asked next.
     Waits {
         pending: Pending,
         to: Server,
         message: Message,
-        sends: Vec<Sending>,
     },
     // No such letter answers the call.
     Strange,
@@ -91,33 +88,28 @@ pub(crate) fn make_change(
     }
 }
 
-// The call has this answer, and these entries.
-pub(crate) fn ends(change: Change, entries: Vec<Entry>, call: Call, answer: Answer) -> Outcome
-    ensures { result ≡ Outcome.Ends change entries (record { call = call; answer = answer }) }
+// The call has this answer, and this entry, if it is one.
+pub(crate) fn ends(change: Change, entry: Option<Entry>, call: Call, answer: Answer) -> Outcome
+    ensures { result ≡ Outcome.Ends change entry (record { call = call; answer = answer }) }
 {
     Outcome::Ends {
         change,
-        entries,
+        entry,
         said: Said { call, answer },
     }
 }
 
 // The call is answered by a unit.
-pub(crate) fn granted(alloc: Global, call: Call, note: UnitNote) -> Outcome
+pub(crate) fn granted(call: Call, note: UnitNote) -> Outcome
     ensures response { (s : ClientModel) → response_of s result ≡ Some (ends (record s { handles = s.handles ++ note ∷ [] }) [] call (Answer.Granted note)) }
     ensures fits { (config : Config) (room : Room) → IsPlaced config note → Fits config room result }
 {
-    ends(
-        Change::Granted(note),
-        Vec::new(alloc),
-        call,
-        Answer::Granted(note),
-    )
+    ends(Change::Granted(note), None, call, Answer::Granted(note))
 }
 
 // The call is answered by an end.
-pub(crate) fn ended(end: End, entries: Vec<Entry>, call: Call) -> Outcome
-    ensures { result ≡ Outcome.Ends (Change.Ended end) entries (record { call = call; answer = Answer.Ended end }) }
+pub(crate) fn ended(end: End, call: Call) -> Outcome
+    ensures { result ≡ Outcome.Ends (Change.Ended end) None (record { call = call; answer = Answer.Ended end }) }
 {
-    ends(Change::Ended(end), entries, call, Answer::Ended(end))
+    ends(Change::Ended(end), None, call, Answer::Ended(end))
 }

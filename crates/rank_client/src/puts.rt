@@ -1,20 +1,21 @@
 //! What a client does to put a unit.
 
 ghost use Rattle.std.specs.Prelude.{◌≡◌, ◌<◌, ◌+◌, [], All, IfOk};
-ghost use Rattle.std.specs.Vec.{vec_len, vec_capacity};
+ghost use Rattle.std.specs.Vec.{vec_len};
 ghost use Rattle.adlb_unit.specs.Limits.{stamp_limit};
 ghost use Rattle.rank_client.specs.inside.{HasRoom, Hears, Opens, opened};
 ghost use Rattle.rank_client.specs.Rules.{call_of, entry_of, first_server, put, unit_put};
 ghost use Rattle.rank_client.specs.declared.pendings.Pending.{Pending};
 
-use crate::calls::with_room;
 use crate::clients::{ClientCore, behind};
 use crate::openings::{First, Opening};
 use crate::outcomes::{Change, Outcome, Place, ended, ends};
 use crate::pendings::Pending;
-use crate::rooms::{Offer, Room};
+use crate::rooms::Room;
 use crate::rounds::{Errand, Round};
-use adlb_unit::{Message, NoMemory, Payload, Rank, Server, Target, Unit, UnitId, WorkType};
+use adlb_unit::{
+    Message, NoMemory, Payload, Rank, Server, Target, Unit, UnitId, WorkType, or_no_memory,
+};
 use bag_ledger::{Answer, Call, Entry};
 use std::alloc::Global;
 
@@ -47,13 +48,13 @@ pub(crate) fn put_call(unit: Unit) -> Call
 }
 
 // What it takes to offer these bytes to this number of servers.
-fn offers(alloc: Global, body: &Payload, servers: usize) -> Result<Vec<Offer>, NoMemory>
+fn offers(alloc: Global, body: &Payload, servers: usize) -> Result<Vec<Payload>, NoMemory>
     ensures all { IfOk result (λ v. All (λ b. b ≡ body.now) v.items) }
     ensures len { IfOk result (λ v. vec_len v ≡ servers) }
 {
-    let mut tries = with_room(alloc, servers)?;
+    let mut tries = or_no_memory(Vec::with_capacity(alloc, servers))?;
     for _ in 0..servers {
-        tries.push_reserved(Offer::new(alloc, body)?);
+        tries.push_reserved(body.twin(alloc)?);
     }
     Ok(tries)
 }
@@ -70,15 +71,8 @@ pub(crate) fn hear_put(
     ensures { Hears place.now (Pending.Put unit round.first round.tried) message.now room.new result }
 {
     match message {
-        Message::Accepted { .. } => {
-            ends(
-                Change::Accepted,
-                Vec::new(place.alloc),
-                put_call(unit),
-                Answer::Fine,
-            )
-        }
-        Message::Ended { end, .. } => ended(*end, Vec::new(place.alloc), put_call(unit)),
+        Message::Accepted { .. } => { ends(Change::Accepted, None, put_call(unit), Answer::Fine) }
+        Message::Ended { end, .. } => ended(*end, put_call(unit)),
         Message::Full { .. } => Errand::Put(unit).offer_next(place, round, room),
         _ => Outcome::Strange,
     }
@@ -111,17 +105,13 @@ impl ClientCore {
         })
     }
 
-    // Room to offer these bytes to the servers after the first one, and to reject them.
+    // Room to offer these bytes to the servers after the first one.
     pub(crate) fn offer_room(&self, body: &Payload) -> Result<Room, NoMemory>
         ensures tries { IfOk result (λ r. vec_len r.tries + 1 ≡ self.now.config.servers) }
         ensures bodies { IfOk result (λ r. All (λ b. b ≡ body.now) r.tries.items) }
-        ensures room { IfOk result (λ r. vec_capacity r.entries ≡ 1) }
-        ensures none { IfOk result (λ r. r.entries.items ≡ []) }
     {
         Ok(Room {
             tries: offers(self.alloc, body, self.config.servers as usize - 1)?,
-            entries: with_room(self.alloc, 1)?,
-            sends: Vec::new(self.alloc),
         })
     }
 

@@ -1,7 +1,7 @@
 //! What goes to one server after the other, in ring order.
 
 ghost use Rattle.std.specs.Prelude.{◌≡◌, ◌<◌, ◌≤◌, ◌+◌, ◌∷◌, ◌++◌, [], ℕ, List, All, false, nat_lt, Some, IfOk, IfSome, is_some};
-ghost use Rattle.std.specs.Vec.{vec_capacity, vec_len};
+ghost use Rattle.std.specs.Vec.{vec_len};
 ghost use Rattle.adlb_unit.specs.Ring.{behind};
 ghost use Rattle.adlb_unit.specs.Targets.{home};
 ghost use Rattle.bag_ledger.specs.declared.entries.Answer.{Answer};
@@ -9,13 +9,14 @@ ghost use Rattle.bag_ledger.specs.declared.entries.Entry.{Entry};
 ghost use Rattle.rank_client.specs.inside.{Fits, HasFirst, HasRoom, IsOffer, IsShort, Starts, later, message_of, passed, pending_at, response_of, response_to};
 ghost use Rattle.rank_client.specs.Rules.{asks, ends, looks_at};
 ghost use Rattle.rank_client.specs.State.{ClientModel};
+ghost use Rattle.rank_client.specs.declared.rooms.Room.{Room};
 
 use crate::clients::{ClientCore, behind};
 use crate::openings::First;
 use crate::outcomes::{Change, Outcome, Place, ends};
 use crate::pendings::Pending;
 use crate::puts::put_call;
-use crate::rooms::{Offer, Room};
+use crate::rooms::Room;
 use adlb_unit::{Config, Message, NoMemory, Payload, Rank, Server, Types, Unit};
 use bag_ledger::{Answer, Call, Entry};
 
@@ -49,8 +50,8 @@ impl Round {
         behind(config, self.first, self.tried as u64)
     }
 
-    // The server that is being asked has refused: the round goes on at the next one, with what it takes to ask it, if one is left.
-    fn offer_next(self, config: &Config, room: &mut Room) -> Option<(Round, Offer)>
+    // The server that is being asked has refused: the round goes on at the next one, with the bytes that it is offered, if one is left.
+    fn offer_next(self, config: &Config, room: &mut Room) -> Option<(Round, Payload)>
         requires room { vec_len room.old.tries + self.tried + 1 ≡ config.now.servers }
         ensures more { is_some result ≡ nat_lt (self.tried + 1) config.now.servers }
         ensures round { IfSome result (λ next. next.0 ≡ later self) }
@@ -59,12 +60,12 @@ impl Round {
         ensures room { IfSome result (λ next. vec_len room.new.tries + (self.tried + 1) + 1 ≡ config.now.servers) }
         ensures others { room.new ≡ record room.old { tries = room.new.tries } }
     {
-        let offer = room.tries.pop()?;
+        let body = room.tries.pop()?;
         let next = Round {
             first: self.first,
             tried: self.tried + 1,
         };
-        Some((next, offer))
+        Some((next, body))
     }
 }
 
@@ -135,47 +136,38 @@ impl Errand {
         ensures fits { Fits place.now.config room.new result }
     {
         match round.offer_next(&place.config, room) {
-            Some((next, Offer { body, sends })) => Outcome::Waits {
+            Some((next, body)) => Outcome::Waits {
                 to: next.server(&place.config),
                 message: self.message(body),
                 pending: self.pending(next),
-                sends,
             },
             None => self.run_out(place, round, room),
         }
     }
 
     // Each server has refused, found nothing or heard it: the call has its answer.
-    fn run_out(self, place: &Place, round: Round, room: &mut Room) -> Outcome
-        requires room { 1 ≤ vec_capacity room.old.entries }
-        requires none { room.old.entries.items ≡ [] }
+    fn run_out(self, place: &Place, round: Round, room: &Room) -> Outcome
         ensures response { (s : ClientModel) → s.me ≡ place.now.me → response_of s result ≡ Some (passed s round self false) }
-        ensures fits { Fits place.now.config room.new result }
+        ensures fits { Fits place.now.config room.now result }
     {
         match self {
-            Errand::Put(unit) => rejected(place, unit.id.number, put_call(unit), room),
+            Errand::Put(unit) => rejected(place, unit.id.number, put_call(unit)),
             Errand::Keep { request, common } => {
-                rejected(place, request, Call::BeginBatch { common }, room)
+                rejected(place, request, Call::BeginBatch { common })
             }
             Errand::Try { request, types } => {
                 let entry = Entry::NoCurrent {
                     rank: place.me,
                     call: request,
                 };
-                let entries = room.entered(place.alloc, entry);
                 ends(
                     Change::Keeps,
-                    entries,
+                    Some(entry),
                     Call::Try { types },
                     Answer::NoCurrent,
                 )
             }
-            Errand::SetDone { .. } => ends(
-                Change::Keeps,
-                Vec::new(place.alloc),
-                Call::SetDone,
-                Answer::Fine,
-            ),
+            Errand::SetDone { .. } => ends(Change::Keeps, None, Call::SetDone, Answer::Fine),
         }
     }
 }
@@ -222,19 +214,16 @@ impl ClientCore {
 }
 
 // The call is rejected.
-fn rejected(place: &Place, number: u64, call: Call, room: &mut Room) -> Outcome
-    requires room { 1 ≤ vec_capacity room.old.entries }
-    requires none { room.old.entries.items ≡ [] }
+fn rejected(place: &Place, number: u64, call: Call) -> Outcome
     ensures response { (s : ClientModel) → s.me ≡ place.now.me →
         response_of s result ≡ Some (ends s (Entry.Rejected s.me number ∷ []) call Answer.Rejected) }
-    ensures fits { Fits place.now.config room.new result }
+    ensures fits { (room : Room) → Fits place.now.config room result }
 {
     let entry = Entry::Rejected {
         rank: place.me,
         call: number,
     };
-    let entries = room.entered(place.alloc, entry);
-    ends(Change::Keeps, entries, call, Answer::Rejected)
+    ends(Change::Keeps, Some(entry), call, Answer::Rejected)
 }
 
 // The unit with these bytes.

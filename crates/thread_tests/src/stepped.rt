@@ -9,7 +9,7 @@ use bag_ledger::{Call, Entry};
 use ledger_checker::first_illegal;
 use merge_history::merge;
 use packed_ledger::Kept;
-use rank_client::ClientCore;
+use rank_client::{ClientCore, ClientStep};
 use server_core::{ServerState, Spare};
 use std::alloc::Global;
 use std::test::Fail;
@@ -107,9 +107,9 @@ impl SteppedRank {
         if !self.client.ready(&made) {
             return Err("not ready".into());
         }
-        let step = self.client.begin(made)?;
-        self.journal.keep(step.stamp, step.entries)?;
-        letters(alloc, step.sends)
+        let mut step = ClientStep::new(alloc)?;
+        self.client.begin(&mut step, made)?;
+        self.keep(alloc, step)
     }
 
     // The rank hears the letter of the server: what it sends, if its call goes on.
@@ -117,9 +117,21 @@ impl SteppedRank {
         if !self.client.expects(Server(0), &letter) {
             return Err("not expected by the rank".into());
         }
-        let step = self.client.hear(Server(0), letter)?;
-        self.journal.keep(step.stamp, step.entries)?;
-        letters(alloc, step.sends)
+        let mut step = ClientStep::new(alloc)?;
+        self.client.hear(&mut step, Server(0), letter)?;
+        self.keep(alloc, step)
+    }
+
+    // Keeps what the step enters in the journal: what it sends.
+    fn keep(&mut self, alloc: Global, step: ClientStep) -> Result<Vec<Letter>, Fail> {
+        let ClientStep {
+            stamp,
+            sends,
+            entries,
+            ..
+        } = step;
+        self.journal.keep(stamp, entries)?;
+        letters(alloc, sends)
     }
 }
 

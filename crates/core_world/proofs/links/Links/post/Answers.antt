@@ -15,12 +15,16 @@ loop-sending-preserved c =
     let pushed : c.push.new.self
     ≡ put_link links c.args.from (place_of config x.to) (link links c.args.from (place_of config x.to) ++ x.letter ∷ []) =
     c.in_ok-push.ensures ∙ ap (λ to. put_link links c.args.from to (link links c.args.from to ++ x.letter ∷ [])) c.place_of.ensures in
-    ap (λ (l : Links). post config l c.args.from rest) pushed ∙ sym (post_one config links c.args.from x rest)
-    ∙ ap (λ (r : List Sending). post config links c.args.from r) (sym c.in-Some.ensures.steps.0) ∙ c.loop-sending.invariant
+    let was = c.loop-sending.invariant in
+    record {
+      posted = ap (λ (l : Links). post config l c.args.from rest) pushed ∙ sym (post_one config links c.args.from x rest)
+          ∙ ap (λ (r : List Sending). post config links c.args.from r) (sym c.in-Some.ensures.steps.0) ∙ was.posted;
+      room = c.in-Some.ensures.steps.2.2 ∙ was.room;
+    }
 
-pub returns : goal.returns
-returns c =
+pub returns-clause-posted : goal.returns-clause-posted
+returns-clause-posted c =
     let config = c.args.config.now in
     let links = c.loop-sending.self in
     sym (post_none config links c.args.from)
-    ∙ ap (λ (r : List Sending). post config links c.args.from r) (sym c.in-None.ensures.steps.0) ∙ c.loop-sending.invariant
+    ∙ ap (λ (r : List Sending). post config links c.args.from r) (sym c.in-None.ensures.steps.0) ∙ c.loop-sending.invariant.posted

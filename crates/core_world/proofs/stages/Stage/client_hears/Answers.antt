@@ -1,9 +1,7 @@
 use Rattle.std.proofs.Common.{◌≡◌, ◌<◌, ◌^◌, Some, None, ap, sym, ◌∙◌, subst}
 use Rattle.std.specs.Prelude.{IsSome}
-use Rattle.std.proofs.lemmas.Result.{IfErr-weaker, IfOk-weaker, on_ok_weaker}
+use Rattle.std.proofs.lemmas.Result.{IfErr-weaker, on_ok_weaker}
 use Rattle.adlb_unit.specs.declared.notes.Trouble.{Trouble}
-use Rattle.rank_client.specs.declared.steps.ClientStep.{ClientStep}
-use Rattle.rank_client.specs.inside.{gives}
 use Rattle.rank_client.specs.State.{ClientModel}
 use Rattle.rank_client.specs.Step.{hear, letter_stamp, letter_trouble}
 use Rattle.core_run.specs.World.{World, client_of}
@@ -19,9 +17,8 @@ returns-clause-heard c =
     let s = c.hear.new.self in
     let at : client ≡ client_of w c.args.rank =
     found_client c.self.inside w c.args.rank client c.self.view_is c.self.invariant c.requires.there c.index_mut-client.ensures.value in
-    let P : ClientStep → Type 0 = λ x. hear client c.args.from c.args.letter ≡ Some (gives s x) in
-    IfOk-weaker c.hear.result P _
-    (λ x heard. (
+    on_ok_weaker c.hear.result
+    (λ heard. (
       s,
       ap (λ (k : ClientModel). hear k c.args.from c.args.letter) (sym at) ∙ heard,
       ap (λ (v : World). with_client v c.args.rank s) c.self.view_is,

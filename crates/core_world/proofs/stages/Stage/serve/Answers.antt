@@ -30,8 +30,8 @@ returns-clause-whole c =
     let whole : IsWhole w = whole_taken c.args.self.now w _ c.requires.whole c.take-letter.ensures.2 in
     let fine : b.0.trouble ≡ None = (serve_stays (pool_of w c.args.to) c.args.from c.take-letter.result _ b.1).0
     ∙ whole_pool w c.args.to whole in
-    let is = c.in_ok-give.ensures.given in
-    whole_server w c.server_steps.new.self c.give.new.self c.args.to b.0 whole fine b.2 (ap (λ (v : World). v.ranks) is)
+    let is = c.in_ok-give_and_keep.ensures.given in
+    whole_server w c.server_steps.new.self c.give_and_keep.new.self c.args.to b.0 whole fine b.2 (ap (λ (v : World). v.ranks) is)
     (ap (λ (v : World). v.servers) is)
 
 pub returns-clause-happened : goal.returns-clause-happened
@@ -39,17 +39,17 @@ returns-clause-happened c =
     let t = c.take-letter.ensures in
     let b = c.in_ok-sends.ensures.served in
     given_happens c.args.self.now c.take-letter.new.self c.server_steps.new.self c.args.from c.args.to c.take-letter.result t.0 b.0 _ _
-    c.requires.enabled t.1 t.2 b.1 b.2 c.give.new.self c.in_ok-give.ensures.given
+    c.requires.enabled t.1 t.2 b.1 b.2 c.give_and_keep.new.self c.in_ok-give_and_keep.ensures.given
 
-pub returns-in_err-give-clause-stops : goal.returns-in_err-give-clause-stops
-returns-in_err-give-clause-stops c =
-    let p = err_from_is_err_and c.from_residual-in_err-give.result c.from_residual-in_err-give.ensures.1 in
+pub returns-in_err-give_and_keep-clause-stops : goal.returns-in_err-give_and_keep-clause-stops
+returns-in_err-give_and_keep-clause-stops c =
+    let p = err_from_is_err_and c.from_residual-in_err-give_and_keep.result c.from_residual-in_err-give_and_keep.ensures.1 in
     let t = c.take-letter.ensures in
     let b = c.in_ok-sends.ensures.served in
-    let cut = c.in_err-give.ensures.cut in
+    let cut = c.in_err-give_and_keep.ensures.cut in
     rw (
       p.1,
       p.2,
       cut.0,
     ) (half_stops c.args.self.now c.take-letter.new.self c.server_steps.new.self c.args.from c.args.to c.take-letter.result t.0 b.0 _ _
-    c.requires.enabled t.1 t.2 b.1 b.2 c.give.new.self c.in_ok-sends.ensures.stamp cut.1)
+    c.requires.enabled t.1 t.2 b.1 b.2 c.give_and_keep.new.self c.in_ok-sends.ensures.stamp cut.1)

@@ -1,5 +1,5 @@
 use Rattle.std.proofs.Common.{ap, subst, ◌∙◌}
-use Rattle.core_run.specs.World.{World, has_ended, pool_of}
+use Rattle.core_run.specs.World.{has_ended, pool_of}
 use Rattle.core_world.proofs.Ended.{ended_is}
 use Rattle.core_world.proofs.Rested.{rested}
 use Rattle.core_world.specs.Seen.{Seen}

@@ -6,5 +6,4 @@ use Rattle.rank_client.proofs.clients.ClientCore.fetch.Goals as goal
 pub returns-clause-opens : goal.returns-clause-opens
 returns-clause-opens c =
     let placed = held_server c.args.self.now c.args.id c.args.note (subst IsSound c.self.view_is c.self.invariant.sound) c.requires.held in
-    let has = c.in_ok-part_room.ensures in
-    (search rules, (placed.0, (has.sends.0, has.sends.1, placed)))
+    (search rules, (placed.0, placed))

@@ -7,5 +7,5 @@ returns-clause-has c =
       c.requires.to,
       first_room c.args.self.now.config c.in_ok-room.room c.args.first c.args.errand c.args.body _ c.requires.offer c.requires.short
           c.requires.first
-          r.tries r.bodies r.room r.none c.pending.ensures,
+          r.tries r.bodies c.pending.ensures,
     )

@@ -32,6 +32,6 @@ invariant_of-self-in-Waits c =
     let here = subst (λ (p : Pending). IsSome (answer_call (state_of i) p c.args.from c.args.message)) pending expected in
     let heard = c.heard.ensures (state_of i) c.args.from refl refl here in
     let fit = subst (λ (o : Outcome). Fits i.config c.heard.new.room o) c.in-Waits.is heard.1 in
-    let has = subst (λ (p : Pending). HasRoom i.config c.heard.new.room p) (sym c.replace.ensures.after) fit.0 in
+    let has = subst (λ (p : Pending). HasRoom i.config c.heard.new.room p) (sym c.replace-in-Waits.ensures.after) fit.0 in
     waiting_inside i _ _ _ c.in-Waits.to.0 c.self.invariant fresh fit.1 (busy (state_of i) i.pending _ _ expected) has
     c.write.ensures.counted

@@ -8,4 +8,4 @@ returns-in-Some-clause-fits c =
     let has =
     room_left c.args.place.now.config c.args.room.now c.offer_next.new.room c.args.round _ c.args.self c.pending.result c.requires.room
     went.bodies (search rules) went.others (search rules) c.pending.ensures in
-    (has, c.server.ensures.there, search rules, search rules)
+    (has, c.server.ensures.there)
