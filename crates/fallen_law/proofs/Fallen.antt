@@ -30,8 +30,7 @@ use Rattle.merge_history.specs.declared.causes.Cause.{Cause}
 use Rattle.merge_history.specs.declared.causes.Cause.TheVariants as causes
 use Rattle.merge_history.specs.Events.{Event}
 use Rattle.merge_history.specs.Own.{ClientWalks, Finals, PoolWalks, Walks, client_step, got, letter_from, pool_step, sent}
-use Rattle.actor_desk.specs.Desks.{DeskModel, sent_at}
-use Rattle.fallen_law.specs.Fallen.{Begins, is_told}
+use Rattle.actor_desk.specs.Desks.{Begins, DeskModel, is_told, sent_at}
 
 -- Messages that no event sends have no rule.
 
@@ -112,14 +111,14 @@ when_so : {X : Type 0} (t : Bool) (o : Option X) (x : X) → cond t o None ≡ S
 when_so true o x is = is
 when_so false o x is = absurd (cc)
 
-hear_plain : (s : ClientModel) (from : Server) (letter : Letter) (x : Made) → hear s from letter ≡ Some x → is_told letter.message ≡ false
+pub hear_plain : (s : ClientModel) (from : Server) (letter : Letter) (x : Made) → hear s from letter ≡ Some x → is_told letter.message ≡ false
 hear_plain s from letter x is =
     plain_if (is_told letter.message) (λ told.
     none_mapped made (answer_call (ticked s (letter_stamp s letter)) s.pending from letter.message) x
     (answer_told (ticked s (letter_stamp s letter)) from s.pending letter.message told)
     (when_so (not s.finished && nat_lt letter.stamp stamp_limit) _ x is))
 
-serve_plain : (s : ServerModel) (from : Actor) (letter : Letter) (x : Served) → serve s from letter ≡ Some x
+pub serve_plain : (s : ServerModel) (from : Actor) (letter : Letter) (x : Served) → serve s from letter ≡ Some x
     → is_told letter.message ≡ false
 serve_plain s from letter x is =
     let t = at_event s letter in
@@ -131,7 +130,7 @@ serve_plain s from letter x is =
 abbrev Plain : List Letter → Type 0
 Plain letters = Each (λ (l : Letter). is_told l.message ≡ false) letters
 
-each_both : (P : Letter → Type 0) (xs ys : List Letter) → Each P xs → Each P ys → Each P (xs ++ ys)
+pub each_both : (P : Letter → Type 0) (xs ys : List Letter) → Each P xs → Each P ys → Each P (xs ++ ys)
 each_both P [] ys a b = b
 each_both P (x ∷ xs) ys a b = (a.0, each_both P xs ys a.1 b)
 
@@ -178,7 +177,7 @@ walks_plain config finals (by.Server server) from events walks = pool_plain conf
 
 -- On each link what was got is a prefix of what was sent.
 
-front_of : (xs ys zs : List Letter) → Each (λ l. is_told l.message ≡ false) xs → Each (λ l. is_told l.message ≡ true) zs
+pub front_of : (xs ys zs : List Letter) → Each (λ l. is_told l.message ≡ false) xs → Each (λ l. is_told l.message ≡ true) zs
     → IsPrefix xs (ys ++ zs) → IsPrefix xs ys
 front_of [] ys zs plain told begins = (ys, refl)
 front_of (x ∷ xs) [] [] plain told begins = absurd (cc begins.1)

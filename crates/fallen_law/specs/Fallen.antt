@@ -1,35 +1,15 @@
--- Journals of actors that may have failed: what went through an actor's mailboxes begins with what its journal says.
-use Rattle.std.specs.Prelude.{◌≡◌, ◌⊎◌, ◌<◌, ◌+◌, ℕ, Bool, true, false, List, ◌∷◌, ◌++◌, is_some}
-use Rattle.std.specs.List.{AllByRecursion as Each}
-use mathlib.Core.List.{IsPrefix}
+-- Journals of actors that may have failed: what such an actor still expects, and which stamp its next event would bear.
+use Rattle.std.specs.Prelude.{◌≡◌, ◌⊎◌, ◌+◌, ℕ, true, false, List, ◌∷◌, ◌++◌, is_some}
 use Rattle.adlb_unit.specs.Links.{is_within, place_of, stamp_after}
 use Rattle.adlb_unit.specs.declared.actors.Actor.{Actor}
 use Rattle.adlb_unit.specs.declared.actors.Actor.TheVariants as by
 use Rattle.adlb_unit.specs.declared.configs.Config.{Config}
 use Rattle.adlb_unit.specs.declared.letters.Letter.{Letter}
-use Rattle.adlb_unit.specs.declared.messages.Message.{Message}
-use Rattle.adlb_unit.specs.declared.messages.Message.TheVariants as tells
-use Rattle.core_run.specs.World.{actors, has_ended}
-use Rattle.rank_mail.specs.Mailboxes.{letters_of}
+use Rattle.core_run.specs.World.{has_ended}
 use Rattle.merge_history.specs.declared.causes.Cause.TheVariants as causes
 use Rattle.merge_history.specs.Events.{OfActor}
 use Rattle.merge_history.specs.Merging.{journal_at}
 use Rattle.merge_history.specs.Own.{Finals, client_step, got, pool_step, sent as sends_to}
-use Rattle.actor_desk.specs.Desks.{DeskModel, sent_at}
-
--- what an actor that failed tells others, and no event sends
-abbrev pub is_told : Message → Bool
-is_told (tells.Abort trouble absent) = true
-is_told (tells.Broken trouble) = true
-is_told (tells.Gone trouble) = true
-is_told _ = false
-
--- to each actor of the run went what the journal sent, and after it what an actor that failed tells alone. Of each came what the journal
--- got, and perhaps more
-pub record Begins (d : DeskModel) : Type 0 where
-  pub sends : (to : ℕ) → to < actors d.config
-      → (more : List Letter) × (sent_at d to ≡ sends_to d.config to d.events ++ more) × Each (λ (l : Letter). is_told l.message ≡ true) more
-  pub receives : (from : ℕ) → from < actors d.config → IsPrefix (got d.config from d.events) (letters_of from d.got)
 
 -- in these states the actor has a step by the letter of that sender
 abbrev pub Expects : Config → Finals → Actor → Actor → Letter → Type 0

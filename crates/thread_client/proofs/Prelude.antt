@@ -26,4 +26,4 @@ pub use Rattle.std.specs.Prelude.{IfErr, IfOk, IfSome, IsSome, OnOk, is_none, na
 pub use Rattle.thread_client.specs.Faults.{IsLate, IsLateFault, told}
 pub use Rattle.thread_client.specs.Jobs.{IsCutShort, IsRankRun, IsUnexpected}
 pub use Rattle.thread_client.specs.Run.{RankLink, link_in, link_of}
-pub use Rattle.thread_client.specs.inside.Wires.{CanBegin, HasCome, HasFailed, IsCut, IsDone, IsRecorded, Knows, MovesOn, Rests, event_of}
+pub use Rattle.thread_client.specs.inside.Wires.{CanBegin, HasCome, HasFailed, IsCut, IsDone, IsRecorded, IsUpTo, Knows, MeetsLimit, MovesOn, Rests, event_of}

@@ -1,5 +1,6 @@
-use Rattle.std.proofs.Common.{ap}
+use Rattle.std.proofs.Common.{refl, ap}
 use Rattle.server_law.specs.State.{ServerModel}
+use Rattle.thread_server.proofs.Begun.{new_over}
 use Rattle.thread_server.proofs.serving.Serving.new.Goals as goal
 
 pub invariant_of-result : goal.invariant_of-result
@@ -8,5 +9,9 @@ invariant_of-result g c =
     record {
       run_is = λ whole. (ap (λ (s : ServerModel). s.config) state, ap (λ (s : ServerModel). s.me) state);
       desk_is = (c.requires.desk.config_is, c.requires.desk.number_is);
+      own_is = λ none. refl;
       late = tt;
     }
+
+pub returns-clause-over : goal.returns-clause-over
+returns-clause-over g c = new_over c.args.config _ c.args.desk.got c.requires.desk.unread c.in_ok-over.ensures

@@ -1,0 +1,24 @@
+use Rattle.std.proofs.Common.{◌-◌, ap, ◌∙◌, Some, arith}
+use Rattle.thread_server.proofs.Telling.{all_past, one_past}
+use Rattle.thread_server.proofs.serving.Serving.set_absent.Goals as goal
+
+pub loop-number-preserved : goal.loop-number-preserved
+loop-number-preserved g c =
+    let was = c.loop-number.invariant in let now = c.set_over.ensures in
+    let low = c.args.self.now.config.ranks - c.args.absent in record {
+      over = λ k b below at.
+          now.over k _ (was.over k b below at)
+          ∙ ap Some (one_past k low c.loop-number.number b (omega (arith, c.loop-number.auto.number, c.saturating_sub-number.ensures)));
+      config = now.config ∙ was.config;
+      me = now.me ∙ was.me;
+      state = now.state ∙ was.state;
+      desk = now.desk ∙ was.desk;
+      fault = now.fault ∙ was.fault;
+      own = now.own ∙ was.own;
+    }
+
+pub returns-clause-over : goal.returns-clause-over
+returns-clause-over g c = λ k b below at.
+    c.loop-number.invariant.over k b below at
+    ∙ ap Some (all_past k (c.args.self.now.config.ranks - c.args.absent) c.loop-number.number b
+    (omega (arith, below, c.loop-number-test.false)))
