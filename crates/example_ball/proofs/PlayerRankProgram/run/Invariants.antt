@@ -1,6 +1,6 @@
 use Rattle.std.proofs.Common.{◌-◌, ◌^◌, ◌≤◌, length}
 use Rattle.adlb.specs.Calls.{GoesOn}
-use Rattle.example_ball.proofs.player.PlayerRankProgram.run.Given as goal
+use Rattle.example_ball.proofs.PlayerRankProgram.run.Given as goal
 
 abbrev pub invariant-turns : goal.invariant-turns
 invariant-turns g l = record {
