@@ -7,7 +7,7 @@ ghost use Rattle.server_core.specs.Out.{event_letters, HasPlaces, HasRoom, IsWit
 ghost use Rattle.adlb_unit.specs.Links.{place_of};
 ghost use Rattle.server_law.specs.Acts.{ServerSaying};
 ghost use Rattle.server_law.specs.Carried.{counted, posted};
-ghost use Rattle.server_law.specs.State.{Kept, ServerModel, is_home, start};
+ghost use Rattle.server_law.specs.State.{Kept, ServerModel, is_finished, is_home, start};
 ghost use Rattle.server_law.specs.Step.{ticked};
 
 use crate::outgoing::Outgoing;
@@ -113,6 +113,14 @@ impl ServerState {
         ensures { IsTrue result ↔ (IsTrue self.now.kept.shut × All IsTrue self.now.kept.finished) }
     {
         self.ring.is_shut() && self.finished.iter().all(|finished| *finished)
+    }
+
+    /// The rank's Finish letter was handled.
+    pub fn has_finished(&self, rank: Rank) -> bool
+        requires { rank.0 < self.now.config.ranks }
+        ensures { result ≡ is_finished self.now.kept rank }
+    {
+        self.finished[rank.0 as usize]
     }
 
     /// The units that are here, in arrival order. Its only error is `NoMemory`.

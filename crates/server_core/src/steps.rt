@@ -28,7 +28,8 @@ impl ServerState {
     /// Handles a letter, as `serve` says. The server is not broken, and the letter is expected. It fails with `TooLong`
     /// exactly when the event's stamp would reach `2^48`, which is tested first; its only other error is `Memory`. After a
     /// failure the server is broken, and a Finish letter counts as handled. What it gives lies in the lists that it is lent,
-    /// emptied first: they take memory only if they have no room for it.
+    /// emptied first: they take memory only if they have no room for it. A failure leaves all that the server kept as it was,
+    /// but for that Finish letter: no rank was granted or answered, and each that waited still waits.
     pub fn step(&mut self, spare: Spare, from: Actor, letter: Letter) -> Result<Step, Trouble>
         requires whole { self.old.trouble ≡ None }
         requires expected { IsSome (serve self.old from letter) }
@@ -41,8 +42,11 @@ impl ServerState {
 
         // What is left after a failure.
         ensures broken { IfErr result (λ trouble. self.new.trouble ≡ Some trouble) }
-        ensures heard { IfErr result (λ trouble. self.new.kept.finished ≡
-            heard_finish self.old.kept.finished from letter.message) }
+        ensures kept { IfErr result (λ trouble. self.new.kept ≡
+            record self.old.kept { finished = heard_finish self.old.kept.finished from letter.message }) }
+
+        ensures config { OnErr result (self.new.config ≡ self.old.config) }
+        ensures me { OnErr result (self.new.me ≡ self.old.me) }
     {
         let finishes = finishing(from, &letter.message);
         let stamp = self.clock.max(letter.stamp) + 1;
@@ -199,7 +203,9 @@ impl ServerState {
     fn fail(&mut self, finishes: Option<Rank>, trouble: Trouble) -> Trouble
         requires { IfSome finishes (λ rank. rank.0 < self.old.config.ranks) }
         ensures trouble { self.new.trouble ≡ Some trouble }
-        ensures heard { self.new.kept.finished ≡ with_finished self.old.kept.finished finishes }
+        ensures kept { self.new.kept ≡ record self.old.kept { finished = with_finished self.old.kept.finished finishes } }
+        ensures config { self.new.config ≡ self.old.config }
+        ensures me { self.new.me ≡ self.old.me }
         ensures result { result ≡ trouble }
     {
         if let Some(rank) = finishes {

@@ -17,8 +17,8 @@ use crate::states::ServerState;
 use adlb_unit::{Actor, Message, RANK_LIMIT, Rank, Server, Types};
 
 impl ServerState {
-    // The rank waits here.
-    fn is_waiting(&self, rank: Rank) -> bool
+    /// The rank waits here: its home is this server, and it asked for a unit and got no answer.
+    pub fn is_waiting(&self, rank: Rank) -> bool
         ensures { result ≡ is_waiting self.now.kept rank }
     {
         self.parked.awaits(rank).is_some()

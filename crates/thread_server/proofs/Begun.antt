@@ -1,29 +1,31 @@
 -- What is known of a server's journal whatever it met.
-use Rattle.std.proofs.Common.{◌≡◌, ◌<◌, ◌==◌, ◌||◌, ℕ, Bool, true, false, cond, List, [], ◌∷◌, ◌++◌, map, filter, flat_map}
-use Rattle.std.proofs.Common.{Option, Some, refl, ap, sym, ◌∙◌, subst, append-nil, append_assoc, slice_get, length, arith}
-use Rattle.std.specs.Prelude.{replicate}
-use Rattle.std.proofs.lemmas.Option.{slice_get-get_or}
-use Rattle.std.proofs.lemmas.List.{get_or-replicate, length-replicate}
-use Rattle.std.specs.List.{AllByRecursion as Each}
-use Rattle.std.proofs.lemmas.Bool.{eq-eqb}
+use Rattle.std.proofs.Common.{◌≡◌, ◌<◌, ◌==◌, ◌+◌, ◌&&◌, ℕ, zero, suc, Bool, true, false, cond, not, nat_lt, List, [], ◌∷◌, ◌++◌, map}
+use Rattle.std.proofs.Common.{filter, flat_map, Option, Some, None, inl, inr, refl, ap, sym, ◌∙◌, subst, append-nil, arith}
+use Rattle.std.specs.List.{AllByRecursion as Each, range_with_len}
+use Rattle.std.proofs.lemmas.Bool.{eq-eqb, eqb-true}
+use Rattle.std.proofs.lemmas.Bool.Decides.{nat_tests}
 use Rattle.std.proofs.lemmas.List.Concat.{flat_map-append}
-use Rattle.std.proofs.lemmas.List.Folds.{list_any-append}
+use Rattle.adlb_unit.specs.Limits.{stamp_limit}
+use Rattle.adlb_unit.specs.Links.{place_of}
 use Rattle.adlb_unit.specs.declared.configs.Config.{Config}
 use Rattle.adlb_unit.specs.declared.letters.Letter.{Letter}
 use Rattle.adlb_unit.specs.declared.letters.Sending.{Sending}
+use Rattle.adlb_unit.specs.declared.messages.Message.{Message}
 use Rattle.adlb_unit.specs.declared.names.Server.{Server}
-use Rattle.adlb_unit.specs.Links.{place_of}
+use Rattle.adlb_unit.specs.declared.notes.Trouble.{Trouble}
 use Rattle.merge_history.specs.Events.{Event}
-use Rattle.merge_history.specs.Own.{PoolWalks, got, letters_to}
+use Rattle.merge_history.specs.Own.{PoolWalks, got, letters_to, sent}
 use Rattle.rank_mail.specs.declared.posted.Posted.{Posted}
 use Rattle.rank_mail.specs.Mailboxes.{letters_of}
 use Rattle.server_law.specs.State.{ServerModel, start}
-use Rattle.actor_desk.specs.Desks.{Begins, DeskModel, IsNew, Tallies, is_told, received}
+use Rattle.actor_desk.specs.Desks.{Begins, DeskModel, IsNew, Tallies, is_told, received, sent_at}
 use Rattle.actor_desk.proofs.Letters.{letters_of_more, received_is}
 use Rattle.thread_client.specs.Faults.{told}
+use Rattle.thread_client.specs.World.{actors, rank_named, server_named}
 use Rattle.thread_client.specs.declared.faults.ActorFault.{ActorFault}
-use Rattle.thread_server.specs.Jobs.{IsBroken, came, ends_rank, is_over, told_ranks, told_servers}
-use Rattle.thread_server.specs.inside.{AreOver, Follows, IsTold}
+use Rattle.thread_server.specs.Jobs.{Ended, EndsAs, IsBroken, abort_to, all_told, awaits_answer, broken_to, came, tells_of, told_by_answer}
+use Rattle.thread_server.specs.Jobs.{told_ranks, told_servers, waits_for}
+use Rattle.thread_server.specs.inside.{Follows}
 
 -- The letters that came.
 
@@ -48,6 +50,7 @@ pub new_follows : (config : Config) (me : Server) (number : ℕ) (d : DeskModel)
     → s ≡ start config me → Follows d [] s
 new_follows config me number d s new is = record {
   whole = ap (λ (x : ServerModel). x.trouble) is;
+  within = subst (λ (x : ServerModel). x.clock < stamp_limit) (sym is) (omega arith);
   tallies = new.tallies;
   walks =
       subst (λ (es : List Event). PoolWalks d.config (start d.config s.me) es s) (sym new.empty)
@@ -56,23 +59,13 @@ new_follows config me number d s new is = record {
       new.unread ∙ ap (λ (es : List Event). flat_map (λ (e : Event). received d.config e.cause) es ++ []) (sym new.empty);
 }
 
-none_over : (n k : ℕ) → k < n → slice_get (replicate n false) k ≡ Some false
-none_over n k low =
-    let long : length (replicate n false) ≡ n = length-replicate n false in
-    slice_get-get_or (replicate n false) k true (omega (arith, long, low)) ∙ ap Some (get_or-replicate n k false true low)
-
-pub new_over : (config : Config) (over : List Bool) (all : List Posted) → all ≡ [] → over ≡ replicate config.ranks false
-    → AreOver config over all
-new_over config over all none is k low =
-    ap (λ (l : List Bool). slice_get l k) is ∙ none_over config.ranks k low
-    ∙ ap (λ (l : List Posted). Some (is_over config l k)) (sym none)
-
 -- A letter more is received.
 
 pub follows_received : (d e : DeskModel) (x : Posted) (s : ServerModel) → e ≡ record d { got = d.got ++ x ∷ [] }
     → (Tallies d [] → Tallies e (x ∷ [])) → Follows d [] s → Follows e (x ∷ []) s
 follows_received d e x s same tallies was = record {
   whole = was.whole;
+  within = was.within;
   tallies = tallies was.tallies;
   walks = subst (λ (y : DeskModel). PoolWalks y.config (start y.config s.me) y.events s) (sym same) was.walks;
   got =
@@ -80,46 +73,6 @@ follows_received d e x s same tallies was = record {
       ∙ ap (λ l. l ++ x ∷ []) (was.got ∙ append-nil (came d))
       ∙ ap (λ (y : DeskModel). came y ++ x ∷ []) (sym same);
 }
-
-pub over_received : (config : Config) (over : List Bool) (d e : DeskModel) (x : Posted) (s : ServerModel)
-    → e ≡ record d { got = d.got ++ x ∷ [] } → Follows d [] s → AreOver config over d.got → AreOver config over (came e)
-over_received config over d e x s same was over_is =
-    subst (AreOver config over) (was.got ∙ append-nil (came d) ∙ ap came (sym same)) over_is
-
-pub told_received : (me : Server) (fault : Option ActorFault) (own : Bool) (d e : DeskModel) (x : Posted)
-    → e ≡ record d { got = d.got ++ x ∷ [] } → IsTold me fault own d → IsTold me fault own e
-told_received me fault own d e x same was = subst (IsTold me fault own) (sym same) more
-  where
-    more : IsTold me fault own (record d { got = d.got ++ x ∷ [] })
-    more f is =
-        let w = was f is in (
-          w.0,
-          w.1,
-          record {
-            letter = w.2.letter;
-            later = w.2.later ++ x ∷ [];
-            got = ap (λ l. l ++ x ∷ []) w.2.got ∙ append_assoc (came d) (w.2.letter ∷ w.2.later) (x ∷ []);
-            breaks = w.2.breaks;
-            sends = w.2.sends;
-          },
-        )
-
--- Which ranks are over.
-
-or_no : (b : Bool) → (b || false) ≡ b
-or_no true = refl
-or_no false = refl
-
--- after one letter more
-pub over_noted : (config : Config) (over new : List Bool) (all : List Posted) (x : Posted) → AreOver config over all
-    → ((k : ℕ) (b : Bool) → k < config.ranks → slice_get over k ≡ Some b
-    → slice_get new k ≡ Some (b || ends_rank config x.from x.letter.message k))
-    → AreOver config new (all ++ x ∷ [])
-over_noted config over new all x was noted k low =
-    let test : Posted → Bool = λ p. ends_rank config p.from p.letter.message k in
-    let more = list_any-append test all (x ∷ []) in
-    noted k (is_over config all k) low (was k low)
-    ∙ ap (λ b. Some (is_over config all k || b)) (sym (or_no (test x))) ∙ ap Some (sym more)
 
 -- Where it broke.
 
@@ -138,41 +91,108 @@ comes_next me d last fault own was =
     ∙ letters_of_more x.from (came d) (x ∷ was.later)
     ∙ (λ i. came_of d.config x.from d.events i ++ first_of_its x was.later i)
 
--- What its mailboxes begin with.
+-- What it tells besides its events.
 
-told_kind : (config : Config) (to : ℕ) (sends : List Sending) → Each (λ (y : Sending). is_told y.letter.message ≡ true) sends
-    → Each (λ (l : Letter). is_told l.message ≡ true) (letters_to config to sends)
-told_kind config to [] all = tt
-told_kind config to (y ∷ sends) all = by_test (place_of config y.to == to) (told_kind config to sends all.1)
-  where
-    others : List Sending
-    others = filter (λ (z : Sending). place_of config z.to == to) sends
+-- it says so to an actor of this kind, and no event sends it
+abbrev Tells : Config → ℕ → Message → Type 0
+Tells config to message = (tells_of config to message ≡ true) × (is_told message ≡ true)
 
-    by_test : (t : Bool) → Each (λ (l : Letter). is_told l.message ≡ true) (map (λ (z : Sending). z.letter) others)
-        → Each (λ (l : Letter). is_told l.message ≡ true) (map (λ (z : Sending). z.letter) (cond t (y ∷ others) others))
-    by_test true rest = (all.0, rest)
-    by_test false rest = rest
-
-each_image : {A : Type 0} (P : Sending → Type 0) (f : A → Sending) → ((a : A) → P (f a)) → (xs : List A) → Each P (map f xs)
-each_image P f holds [] = tt
-each_image P f holds (x ∷ xs) = (holds x, each_image P f holds xs)
+-- the letter does so
+abbrev TellsIt : Config → Sending → Type 0
+TellsIt config y = Tells config (place_of config y.to) y.letter.message
 
 each_both : (P : Sending → Type 0) (xs ys : List Sending) → Each P xs → Each P ys → Each P (xs ++ ys)
 each_both P [] ys a b = b
 each_both P (x ∷ xs) ys a b = (a.0, each_both P xs ys a.1 b)
+
+each_named : {A : Type 0} (P : Sending → Type 0) (told : A → Sending) (test : A → Bool) (named : ℕ → A) (low n : ℕ)
+    → ((k : ℕ) → k < low + n → P (told (named k))) → Each P (map told (filter test (map named (range_with_len low n))))
+each_named P told test named low zero holds = tt
+each_named {A} P told test named low (suc n) holds =
+    by_test (test (named low)) (each_named P told test named (low + 1) n (λ k below. holds k (omega (arith, below))))
+  where
+    rest : List A
+    rest = filter test (map named (range_with_len (low + 1) n))
+
+    by_test : (t : Bool) → Each P (map told rest) → Each P (map told (cond t (named low ∷ rest) rest))
+    by_test true all = (holds low (omega arith), all)
+    by_test false all = all
+
+low_rank : (n k : ℕ) → k < n → nat_lt k n ≡ true
+low_rank n k low = grind (arith, nat_tests)
+
+no_rank : (n k : ℕ) → not (nat_lt (n + k) n) ≡ true
+no_rank n k = grind (arith, nat_tests)
+
+answer_tells : (config : Config) (trouble : Trouble) (y : Posted) → Each (TellsIt config) (told_by_answer config trouble y)
+answer_tells config trouble y = by_test (nat_lt y.from config.ranks) (awaits_answer y.letter.message) refl
+  where
+    by_test : (low asks : Bool) → nat_lt y.from config.ranks ≡ low
+        → Each (TellsIt config) (cond (low && asks) (broken_to trouble (rank_named y.from) ∷ []) [])
+    by_test true true is = ((is, refl), tt)
+    by_test true false is = tt
+    by_test false asks is = tt
+
+answers_tell : (config : Config) (trouble : Trouble) (later : List Posted)
+    → Each (TellsIt config) (flat_map (told_by_answer config trouble) later)
+answers_tell config trouble [] = tt
+answers_tell config trouble (y ∷ later) =
+    each_both (TellsIt config) (told_by_answer config trouble y) (flat_map (told_by_answer config trouble) later)
+    (answer_tells config trouble y) (answers_tell config trouble later)
+
+all_tell : (config : Config) (me : Server) (s : ServerModel) (x : Posted) (later : List Posted) (trouble : Trouble)
+    → Each (TellsIt config) (all_told config me s x later trouble)
+all_tell config me s x later trouble =
+    let first = told_servers config me trouble in
+    let second = told_ranks config s x trouble in
+    let rest = flat_map (told_by_answer config trouble) later in
+    each_both (TellsIt config) first (second ++ rest)
+    (each_named (TellsIt config) (abort_to trouble) (λ (t : Server). not (t.0 == me.0)) server_named 0 config.servers
+    (λ k low. (no_rank config.ranks k, refl)))
+    (each_both (TellsIt config) second rest
+    (each_named (TellsIt config) (broken_to trouble) (waits_for s x) rank_named 0 config.ranks
+    (λ k low. (low_rank config.ranks k (omega (arith, low)), refl)))
+    (answers_tell config trouble later))
+
+letters_tell : (config : Config) (to : ℕ) (sends : List Sending) → Each (TellsIt config) sends
+    → Each (λ (l : Letter). Tells config to l.message) (letters_to config to sends)
+letters_tell config to [] all = tt
+letters_tell config to (y ∷ sends) all = by_test (place_of config y.to == to) refl (letters_tell config to sends all.1)
+  where
+    others : List Sending
+    others = filter (λ (z : Sending). place_of config z.to == to) sends
+
+    by_test : (t : Bool) → (place_of config y.to == to) ≡ t
+        → Each (λ (l : Letter). Tells config to l.message) (map (λ (z : Sending). z.letter) others)
+        → Each (λ (l : Letter). Tells config to l.message) (map (λ (z : Sending). z.letter) (cond t (y ∷ others) others))
+    by_test true here rest =
+        (subst (λ (n : ℕ). Tells config n y.letter.message) (eqb-true (place_of config y.to) to here) all.0, rest)
+    by_test false there rest = rest
+
+each_weaker : (P Q : Letter → Type 0) (ls : List Letter) → ((l : Letter) → P l → Q l) → Each P ls → Each Q ls
+each_weaker P Q [] to all = tt
+each_weaker P Q (l ∷ ls) to all = (to l all.0, each_weaker P Q ls to all.1)
+
+-- what its mailboxes have after its events, where it broke
+told_after : (me : Server) (d : DeskModel) (last : ServerModel) (fault : ActorFault) (own : Bool) → IsBroken me d last fault own
+    → (to : ℕ) → to < actors d.config
+    → (more : List Letter) × (sent_at d to ≡ sent d.config to d.events ++ more) × Each (λ (l : Letter). Tells d.config to l.message) more
+told_after me d last fault own was to low =
+    let all = all_told d.config me last was.letter was.later (told fault) in (
+      letters_to d.config to all,
+      was.sends to low,
+      letters_tell d.config to all (all_tell d.config me last was.letter was.later (told fault)),
+    )
 
 -- they begin with what the journal has, where it broke
 pub broken_begins : (me : Server) (d : DeskModel) (last : ServerModel) (fault : ActorFault) (own : Bool) → IsBroken me d last fault own
     → Begins d
 broken_begins me d last fault own was = record {
   sends = λ to low.
-      let a = told_servers d.config me (told fault) in let b = told_ranks d.config (came d ++ was.letter ∷ []) (told fault) in (
-        letters_to d.config to (a ++ b),
-        was.sends to low,
-        told_kind d.config to (a ++ b)
-            (each_both (λ (y : Sending). is_told y.letter.message ≡ true) a b
-            (each_image (λ (y : Sending). is_told y.letter.message ≡ true) _ (λ k. refl) _)
-            (each_image (λ (y : Sending). is_told y.letter.message ≡ true) _ (λ k. refl) _)),
+      let after = told_after me d last fault own was to low in (
+        after.0,
+        after.1,
+        each_weaker (λ l. Tells d.config to l.message) (λ l. is_told l.message ≡ true) after.0 (λ l both. both.1) after.2,
       );
   receives = λ from low. (
     letters_of from (was.letter ∷ was.later),
@@ -180,3 +200,38 @@ broken_begins me d last fault own was = record {
         ∙ sym (letters_of_more from (came d) (was.letter ∷ was.later)) ∙ ap (letters_of from) (sym was.got),
   );
 }
+
+-- besides its events a server tells ranks that it broke, and servers to break too
+pub tells_kind : (config : Config) (me : Server) (e : Ended) → EndsAs config me e → (to : ℕ) → to < actors config
+    → (more : List Letter) × (sent_at e.desk to ≡ sent config to e.desk.events ++ more)
+    × Each (λ (l : Letter). tells_of config to l.message ≡ true) more
+tells_kind config me e ends to low = by_fault e.fault refl
+  where
+    low_there : to < actors e.desk.config
+    low_there = subst (λ (c : Config). to < actors c) (sym ends.config_is) low
+
+    whole : Tallies e.desk []
+        → (more : List Letter) × (sent_at e.desk to ≡ sent config to e.desk.events ++ more)
+        × Each (λ (l : Letter). tells_of config to l.message ≡ true) more
+    whole tallies = (
+      [],
+      tallies.sends to low_there ∙ ap (λ (c : Config). sent c to e.desk.events) ends.config_is
+          ∙ sym (append-nil (sent config to e.desk.events)),
+      tt,
+    )
+
+    by_fault : (o : Option ActorFault) → e.fault ≡ o
+        → (more : List Letter) × (sent_at e.desk to ≡ sent config to e.desk.events ++ more)
+        × Each (λ (l : Letter). tells_of config to l.message ≡ true) more
+    by_fault None is = whole (ends.own is).tallies
+    by_fault (Some fault) is = elim (ends.broken fault is) [
+      | inl broken ↦
+          let after = told_after me e.desk ends.begun.last fault e.own broken to low_there in (
+            after.0,
+            after.1 ∙ ap (λ (c : Config). sent c to e.desk.events ++ after.0) ends.config_is,
+            subst (λ (c : Config). Each (λ (l : Letter). tells_of c to l.message ≡ true) after.0) ends.config_is
+                (each_weaker (λ l. Tells e.desk.config to l.message) (λ l. tells_of e.desk.config to l.message ≡ true) after.0
+                (λ l both. both.0) after.2),
+          )
+      | inr left ↦ whole left.3.tallies
+    ]

@@ -1,17 +1,11 @@
-use Rattle.std.proofs.Common.{refl, ap}
+use Rattle.std.proofs.Common.{ap}
 use Rattle.server_law.specs.State.{ServerModel}
-use Rattle.thread_server.proofs.Begun.{new_over}
 use Rattle.thread_server.proofs.serving.Serving.new.Goals as goal
 
 pub invariant_of-result : goal.invariant_of-result
 invariant_of-result g c =
     let state = c.in_ok-state.ensures in
     record {
-      run_is = λ whole. (ap (λ (s : ServerModel). s.config) state, ap (λ (s : ServerModel). s.me) state);
+      run_is = (ap (λ (s : ServerModel). s.config) state, ap (λ (s : ServerModel). s.me) state);
       desk_is = (c.requires.desk.config_is, c.requires.desk.number_is);
-      own_is = λ none. refl;
-      late = tt;
     }
-
-pub returns-clause-over : goal.returns-clause-over
-returns-clause-over g c = new_over c.args.config _ c.args.desk.got c.requires.desk.unread c.in_ok-over.ensures
