@@ -1,7 +1,7 @@
 mod Bridge
 mod Going
 mod Machine
-mod OneLedger
+pub mod OneLedger
 mod OneRun
 mod Places
 mod States
