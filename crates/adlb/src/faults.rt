@@ -15,7 +15,7 @@ pub enum Fault {
     /// A thread could not be started.
     #[error("a thread could not be started")]
     NoThread,
-    /// Allocation failed, in the work or in the run, or an actor got a letter that it did not expect.
+    /// Allocation failed, in the work or in the run.
     #[error("out of memory")]
     Memory,
     /// An event of the run would have this stamp, which is past the last one that is given.

@@ -1,5 +1,6 @@
 -- A stamp that was too long for a step of an actor's own is that of its next event, in one run of all actors.
-use Rattle.std.proofs.Common.{◌≡◌, ◌⊎◌, inl, inr, ◌<◌, ◌≤◌, ◌+◌, ℕ, zero, suc, Bool, true, false, List, [], ◌∷◌, ◌++◌, length, map, slice_get}
+use Rattle.std.proofs.Common.{◌≡◌, ◌⊎◌, inl, inr, ◌<◌, ◌≤◌, ◌+◌, ℕ, zero, suc}
+use Rattle.std.proofs.Common.{Bool, true, false, List, [], ◌∷◌, ◌++◌, length, map, slice_get}
 use Rattle.std.proofs.Common.{Some, cond, refl, ap, sym, ◌∙◌, subst, arith, lt-ltb, length-append}
 use Rattle.std.specs.Prelude.{IsSome}
 use Rattle.std.proofs.lemmas.Bool.{eq-eqb, false≢true}
@@ -25,11 +26,11 @@ use Rattle.fallen_law.proofs.Nexts.{heard_plain, served_plain}
 use Rattle.fallen_law.specs.Fallen.{WouldBear, last_stamp}
 use Rattle.thread_server.specs.World.{rank_named, server_named}
 use Rattle.thread_client.specs.Jobs.{Ended, WouldBear as StopsAt}
-use Rattle.thread_client.specs.declared.faults.ActorFault.TheVariants as faults
+use Rattle.thread_client.specs.declared.faults.ActorFault.TheVariants.{TooLong}
 use Rattle.thread_server.specs.Jobs.{BreaksBy, Ended as Served, IsBroken}
 use Rattle.thread_server.proofs.Begun.{comes_next}
-use Rattle.adlb_threads.specs.declared.faults.RanFault.TheVariants.{TooLong}
-use Rattle.adlb_threads.specs.inside.{AreClear, AreOwnRuns, AreRanksEnds, AreReceived, AreServersEnds, IsLateEnd, all_met, desks_of, journals_at}
+use Rattle.adlb_threads.specs.inside.{AreClear, AreOwnRuns, AreRanksEnds, AreReceived}
+use Rattle.adlb_threads.specs.inside.{AreServersEnds, IsLateEnd, all_met, desks_of, journals_at}
 use Rattle.adlb_threads.proofs.Endings.{are_clear, finals, own_runs, rank_walks, server_walks}
 use Rattle.adlb_threads.proofs.Journals.{can_merge, next_at, under_map}
 use Rattle.adlb_threads.proofs.Troubles.{IsLateOf, late_limit, whose_late}
@@ -43,14 +44,14 @@ in_first [] ys (suc k) t at = absurd cc
 in_first (x ∷ xs) ys zero t at = at
 in_first (x ∷ xs) ys (suc k) t at = in_first xs ys k t at
 
-in_second : {T : Type 0} (xs ys : List T) (k place : ℕ) (t : T) → place ≡ length xs + k → slice_get ys k ≡ Some t
+pub in_second : {T : Type 0} (xs ys : List T) (k place : ℕ) (t : T) → place ≡ length xs + k → slice_get ys k ≡ Some t
     → slice_get (xs ++ ys) place ≡ Some t
 in_second [] ys k place t is at = ap (slice_get ys) (omega (arith, is)) ∙ at
 in_second (x ∷ xs) ys k zero t is at = absurd (omega (arith, is))
 in_second (x ∷ xs) ys k (suc place) t is at = in_second xs ys k place t (omega (arith, is)) at
 
 -- one letter of an actor is what was received of it
-its_own : (from : ℕ) (letter : Letter) → letters_of from (record { from = from; letter = letter } ∷ []) ≡ letter ∷ []
+pub its_own : (from : ℕ) (letter : Letter) → letters_of from (record { from = from; letter = letter } ∷ []) ≡ letter ∷ []
 its_own from letter =
     ap (λ (t : Bool). map (λ (p : Posted). p.letter) (cond t (record { from = from; letter = letter } ∷ []) [])) (eq-eqb from from refl)
 
@@ -82,7 +83,7 @@ module _ {O : Type 0} (config : Config) (ends : List (Ended O)) (served : List S
       let next = next_at config desks last clear received own from me from_within within e letter later at plain came in
       inr (from, letter, next.0, from_within, next.1, is)
 
-  server_desk : (k : ℕ) (e : Served) → slice_get served k ≡ Some e → slice_get desks (config.ranks + k) ≡ Some e.desk
+  pub server_desk : (k : ℕ) (e : Served) → slice_get served k ≡ Some e → slice_get desks (config.ranks + k) ≡ Some e.desk
   server_desk k e at =
       let mine : List DeskModel = map (λ (e : Ended O). e.desk) ends in
       let theirs : List DeskModel = map (λ (e : Served). e.desk) served in
@@ -90,7 +91,7 @@ module _ {O : Type 0} (config : Config) (ends : List (Ended O)) (served : List S
       in_first (mine ++ theirs) (desk ∷ []) (config.ranks + k) e.desk
       (in_second mine theirs k (config.ranks + k) e.desk (omega (arith, long)) (under_map (λ (e : Served). e.desk) served k e at))
 
-  rank_desk : (k : ℕ) (e : Ended O) → slice_get ends k ≡ Some e → slice_get desks k ≡ Some e.desk
+  pub rank_desk : (k : ℕ) (e : Ended O) → slice_get ends k ≡ Some e → slice_get desks k ≡ Some e.desk
   rank_desk k e at =
       let mine : List DeskModel = map (λ (e : Ended O). e.desk) ends in
       let theirs : List DeskModel = map (λ (e : Served). e.desk) served in
@@ -98,39 +99,40 @@ module _ {O : Type 0} (config : Config) (ends : List (Ended O)) (served : List S
 
   -- A server's.
 
-  server_within : (k : ℕ) (e : Served) → slice_get served k ≡ Some e → is_within config (by.Server (server_named k)) ≡ true
+  pub server_within : (k : ℕ) (e : Served) → slice_get served k ≡ Some e → is_within config (by.Server (server_named k)) ≡ true
   server_within k e at = lt-ltb k config.servers (let low = slice_get_within served k e at in omega (arith, low, servers.all))
 
   broken_bears : (k : ℕ) (e : Served) (s : ServerModel) (stamp : ℕ) → slice_get served k ≡ Some e → s ≡ last.pool (server_named k)
-      → e.own ≡ true → IsBroken (server_named k) e.desk s (faults.TooLong stamp) e.own → Bears (by.Server (server_named k)) stamp
+      → e.own ≡ true → IsBroken (server_named k) e.desk s (TooLong stamp) e.own → Bears (by.Server (server_named k)) stamp
   broken_bears k e s stamp at same own_step was =
       let same_config = (servers.each k e at).config_is in
       let x = was.letter in
-      let breaks : BreaksBy config s x (faults.TooLong stamp) e.own =
-      subst (λ (c : Config). BreaksBy c s x (faults.TooLong stamp) e.own) same_config was.breaks in
+      let breaks : BreaksBy config s x (TooLong stamp) e.own =
+      subst (λ (c : Config). BreaksBy c s x (TooLong stamp) e.own) same_config was.breaks in
       let step = breaks.step own_step in
       let came : letters_of x.from (e.desk).got ≡ got config x.from (e.desk).events ++ x.letter ∷ letters_of x.from was.later =
-      comes_next (server_named k) e.desk s (faults.TooLong stamp) e.own was
+      comes_next (server_named k) e.desk s (TooLong stamp) e.own was
       ∙ ap (λ (c : Config). got c x.from (e.desk).events ++ x.letter ∷ letters_of x.from was.later) same_config in
       by_letter step.0 (by.Server (server_named k)) step.1 (server_within k e at) e.desk x.letter (letters_of x.from was.later) stamp
       (server_desk k e at) (served_plain s step.0 x.letter step.3)
-      (subst (λ (n : ℕ). letters_of n (e.desk).got ≡ got config n (e.desk).events ++ x.letter ∷ letters_of x.from was.later) (sym step.2) came)
+      (subst (λ (n : ℕ). letters_of n (e.desk).got ≡ got config n (e.desk).events ++ x.letter ∷ letters_of x.from was.later)
+      (sym step.2) came)
       (breaks.stamp own_step stamp refl ∙ ap (λ (t : ServerModel). stamp_after t.clock x.letter) same)
 
-  server_bears : (k : ℕ) (e : Served) (stamp : ℕ) → slice_get served k ≡ Some e → e.fault ≡ Some (faults.TooLong stamp) → e.own ≡ true
+  server_bears : (k : ℕ) (e : Served) (stamp : ℕ) → slice_get served k ≡ Some e → e.fault ≡ Some (TooLong stamp) → e.own ≡ true
       → Bears (by.Server (server_named k)) stamp
   server_bears k e stamp at late own_step =
       let end = servers.each k e at in
       let same = pool_same config (new_pool config (server_named k)) (e.desk).events end.begun.last (last.pool (server_named k))
       end.begun.walks (server_walks config ends served desk ranks servers number k e at) in
-      elim (end.broken (faults.TooLong stamp) late) [
+      elim (end.broken (TooLong stamp) late) [
         | inl was ↦ broken_bears k e end.begun.last stamp at same own_step was
         | inr full ↦ absurd (false≢true (sym full.0 ∙ own_step))
       ]
 
   -- A rank's.
 
-  rank_within : (k : ℕ) (e : Ended O) → slice_get ends k ≡ Some e → is_within config (by.Rank (rank_named k)) ≡ true
+  pub rank_within : (k : ℕ) (e : Ended O) → slice_get ends k ≡ Some e → is_within config (by.Rank (rank_named k)) ≡ true
   rank_within k e at = lt-ltb k config.ranks (let low = slice_get_within ends k e at in omega (arith, low, ranks.all))
 
   late_bears : (k : ℕ) (e : Ended O) (s : ClientModel) (stamp : ℕ) → slice_get ends k ≡ Some e → s ≡ last.client (rank_named k)
@@ -145,7 +147,7 @@ module _ {O : Type 0} (config : Config) (ends : List (Ended O)) (served : List S
       ∙ ap (λ l. got config (place_of config server) (e.desk).events ++ l) (its_own (place_of config server) came.letter))
       (came.stamp_is ∙ ap (λ (t : ClientModel). stamp_after t.clock came.letter) same)
 
-  rank_bears : (k : ℕ) (e : Ended O) (stamp : ℕ) → slice_get ends k ≡ Some e → e.fault ≡ Some (faults.TooLong stamp) → e.own ≡ true
+  rank_bears : (k : ℕ) (e : Ended O) (stamp : ℕ) → slice_get ends k ≡ Some e → e.fault ≡ Some (TooLong stamp) → e.own ≡ true
       → Bears (by.Rank (rank_named k)) stamp
   rank_bears k e stamp at late own_step =
       let stop = (ranks.each k e at).stopped own_step stamp late in
@@ -160,8 +162,12 @@ module _ {O : Type 0} (config : Config) (ends : List (Ended O)) (served : List S
       → (actor : Actor) × (is_within config actor ≡ true) × Bears actor stamp
   bears stamp (inl mine) =
       (by.Rank (rank_named mine.0), rank_within mine.0 mine.1 mine.2, rank_bears mine.0 mine.1 stamp mine.2 mine.3 mine.4)
-  bears stamp (inr theirs) =
-      (by.Server (server_named theirs.0), server_within theirs.0 theirs.1 theirs.2, server_bears theirs.0 theirs.1 stamp theirs.2 theirs.3 theirs.4)
+  bears stamp (inr theirs) = (
+    by.Server (server_named theirs.0),
+    server_within theirs.0 theirs.1 theirs.2,
+    server_bears theirs.0 theirs.1 stamp
+        theirs.2 theirs.3 theirs.4,
+  )
 
   ends_late : (ledger : List Entry) (stamp : ℕ) → all_met ends served ≡ Some (TooLong stamp)
       → IsOneHistory config last (journals_at config desks) ledger → IsLateEnd config ends stamp

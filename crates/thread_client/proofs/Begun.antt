@@ -1,7 +1,9 @@
 -- What is known of a rank's journal whatever the rank met.
-use Rattle.thread_client.proofs.Prelude.{Call, ClientModel, Config, DeskModel, Err, Finish, HasCome, IfOk, IsDone, IsRecorded, IsUpTo, Letter}
-use Rattle.thread_client.proofs.Prelude.{List, None, Ok, Option, Rests, Result, Some, Trouble, [], ap, option_map, pending_call, refl, subst}
-use Rattle.thread_client.proofs.Prelude.{start, sym, told, true, with_room, ℕ, ◌++◌, ◌+◌, ◌<◌, ◌∙◌, ◌∷◌, ◌≡◌}
+use Rattle.thread_client.proofs.Prelude.{Call, ClientModel, Config, DeskModel, Err, Finish}
+use Rattle.thread_client.proofs.Prelude.{HasCome, IfOk, IsDone, IsRecorded, IsUpTo, Letter}
+use Rattle.thread_client.proofs.Prelude.{List, None, Ok, Option, Rests, Result, Some}
+use Rattle.thread_client.proofs.Prelude.{Trouble, [], ap, option_map, pending_call, refl, subst}
+use Rattle.thread_client.proofs.Prelude.{stamp_limit, start, sym, told, true, with_room, ℕ, ◌++◌, ◌+◌, ◌<◌, ◌∙◌, ◌∷◌, ◌≡◌}
 use Rattle.actor_desk.proofs.Letters.{letters_to_more}
 use Rattle.actor_desk.specs.Desks.{Begins, is_told, sent_at}
 use Rattle.actor_desk.specs.World.{actors, server_named}
@@ -116,7 +118,8 @@ told_letters config to (x ∷ xs) all = by_test (place_of config x.to == to) (to
 abbrev goodbye : Trouble → ℕ → Sending
 goodbye trouble n = sending 0 0 (by.Server (server_named n)) (tells.Gone trouble)
 
-all_told : (trouble : Trouble) (from n : ℕ) → Each (λ (y : Sending). is_told y.letter.message ≡ true) (map (goodbye trouble) (range_with_len from n))
+all_told : (trouble : Trouble) (from n : ℕ) → Each (λ (y : Sending). is_told y.letter.message ≡ true)
+    (map (goodbye trouble) (range_with_len from n))
 all_told trouble from zero = tt
 all_told trouble from (suc n) = (refl, all_told trouble (from + 1) n)
 
@@ -144,7 +147,8 @@ pub one_told : (config : Config) (trouble : Trouble) (number : ℕ) (old d e : D
     → sent_at e n ≡ sent_at old n ++ letters_to config n (map (goodbye trouble) (range_with_len 0 (number + 1)))
 one_told config trouble number old d e configs now was n low =
     let told_now =
-    subst (λ (k : Config). (n : ℕ) → n < actors k → sent_at e n ≡ sent_at d n ++ letters_to k n (goodbye trouble number ∷ [])) configs now in
+    subst (λ (k : Config). (n : ℕ) → n < actors k → sent_at e n ≡ sent_at d n ++ letters_to k n (goodbye trouble number ∷ []))
+    configs now in
     one_more config trouble n number (sent_at e n) (sent_at d n) (sent_at old n) (was n low) (told_now n low)
 
 -- the desk of a rank that has left
@@ -170,11 +174,13 @@ module _ (d e : DeskModel) (s : ClientModel) (o : Option Trouble) (was : IsUpTo 
       subst Begins (sym same) here
 
   pub gone_begun : (said : List Said) (begun : Option Call) → s.transcript ≡ said → pending_call s.pending ≡ begun
-      → IsBegun d.config s.me e said begun
-  gone_begun said begun transcript pends = record {
+      → s.clock < stamp_limit → IsBegun d.config s.me e said begun
+  gone_begun said begun transcript pends within = record {
     last = record s { trouble = None };
-    walks = subst (λ (x : DeskModel). ClientWalks d.config (start d.config s.me) x.events (record s { trouble = None })) (sym same) was.walks;
+    walks = subst (λ (x : DeskModel). ClientWalks d.config (start d.config s.me) x.events (record s { trouble = None }))
+        (sym same) was.walks;
     transcript = transcript;
     pends = pends;
+    within = within;
     begins = left_begins;
   }

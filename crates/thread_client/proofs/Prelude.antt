@@ -24,6 +24,7 @@ pub use Rattle.std.proofs.Common.{rules, subst, sym, true, ℕ, ◌&&◌, ◌*�
 pub use Rattle.std.specs.Option.{option_map}
 pub use Rattle.std.specs.Prelude.{IfErr, IfOk, IfSome, IsSome, OnOk, is_none, nat_lt}
 pub use Rattle.thread_client.specs.Faults.{IsLate, IsLateFault, told}
-pub use Rattle.thread_client.specs.Jobs.{IsCutShort, IsRankRun, IsUnexpected}
+pub use Rattle.thread_client.specs.Jobs.{IsCutShort, IsRankRun, IsUnexpected, was_told}
 pub use Rattle.thread_client.specs.Run.{RankLink, link_in, link_of}
-pub use Rattle.thread_client.specs.inside.Wires.{CanBegin, HasCome, HasFailed, IsCut, IsDone, IsRecorded, IsUpTo, Knows, MeetsLimit, MovesOn, Rests, event_of}
+pub use Rattle.thread_client.specs.inside.Wires.{CanBegin, HasCome, HasFailed, IsCut, IsDone, IsRecorded}
+pub use Rattle.thread_client.specs.inside.Wires.{IsUpTo, Knows, MeetsLimit, MovesOn, Rests, event_of}

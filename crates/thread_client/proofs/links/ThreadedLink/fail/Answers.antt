@@ -12,13 +12,16 @@ invariant_of-self g c =
     let e = c.fail.ensures in
     let met = ap (λ (l : RankLink). l.core.trouble) c.self.view_is in (
       ap (λ (s : ClientModel). s.me) e.failed ∙ c.self.invariant.0,
-      fail_rests w.core c.fail.new.self c.fail.result c.args.trouble e.failed e.first (λ whole stamp is. absurd (c.requires.other (sym met ∙ whole) stamp is))
+      fail_rests w.core c.fail.new.self c.fail.result c.args.trouble e.failed e.first
+          (λ whole stamp is. absurd (c.requires.other (sym met ∙ whole) stamp is))
           c.self.invariant.1,
       λ whole. absurd (let failed = ap (λ (s : ClientModel). s.trouble) e.failed in cc (failed, whole)),
       again_cut w.desk w.core c.fail.new.self w.unexpected c.fail.result c.args.trouble e.failed e.first c.self.invariant.3,
       still_up w.desk w.core c.fail.new.self c.fail.result e.failed c.self.invariant.4,
-      λ own. again_limit w.desk w.core c.fail.new.self c.fail.result c.args.trouble e.failed e.first (λ whole. c.requires.other (sym met ∙ whole))
+      λ own. again_limit w.desk w.core c.fail.new.self c.fail.result c.args.trouble e.failed e.first
+          (λ whole. c.requires.other (sym met ∙ whole))
           (c.self.invariant.5 own),
+      c.self.invariant.6,
     )
 
 pub returns-clause-begun : goal.returns-clause-begun

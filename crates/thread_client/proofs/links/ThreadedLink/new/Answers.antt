@@ -1,4 +1,4 @@
-use Rattle.thread_client.proofs.Prelude.{ClientModel, [], ap}
+use Rattle.thread_client.proofs.Prelude.{ClientModel, [], ap, sym, was_told}
 use Rattle.thread_client.proofs.Begun.{whole_up}
 use Rattle.thread_client.proofs.Called.{start_rests}
 use Rattle.thread_client.proofs.Walks.{new_recorded}
@@ -13,4 +13,5 @@ invariant_of-result-3 g c =
       λ from some. absurd (cc),
       whole_up c.args.desk [] c.in_ok-core.core (ap (λ (s : ClientModel). s.trouble) c.in_ok-core.ensures) recorded,
       λ own stamp met. absurd (let whole = ap (λ (s : ClientModel). s.trouble) c.in_ok-core.ensures in cc (whole, met)),
+      ap was_told (sym c.requires.desk.unread),
     )

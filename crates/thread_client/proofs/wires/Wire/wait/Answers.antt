@@ -1,5 +1,9 @@
-use Rattle.thread_client.proofs.Prelude.{◌∙◌}
+use Rattle.thread_client.proofs.Prelude.{DeskModel, ap, ◌∙◌}
 use Rattle.thread_client.proofs.wires.Wire.wait.Goals as goal
+
+pub hear-requires-clause-came : goal.hear-requires-clause-came
+hear-requires-clause-came g c =
+    (c.loop.self.desk.got, ap (λ (d : DeskModel). d.got) c.receive-from.ensures.got, c.loop.invariant.told)
 
 pub returns-in-Some-2-clause-answered : goal.returns-in-Some-2-clause-answered
 returns-in-Some-2-clause-answered g c =
@@ -21,6 +25,7 @@ loop-preserved g c =
       knows = h.knows;
       recorded = h.recorded;
       expected = h.expected;
+      told = h.told;
       config = h.config ∙ was.config;
       me = h.me ∙ was.me;
     }
