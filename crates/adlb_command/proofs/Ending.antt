@@ -12,6 +12,7 @@ use Rattle.command_words.specs.declared.commands.WordsFault.TheVariants as words
 use Rattle.flow_app.specs.declared.faults.FlowWhy.{FlowWhy}
 use Rattle.flow_app.specs.declared.finishing.FlowOutcome.{FlowOutcome}
 use Rattle.flow_command.proofs.Starting.{flowed_early}
+use Rattle.flow_command.specs.Ends as flows
 use Rattle.flow_command.specs.Ends.{FindsValues}
 use Rattle.job_report.specs.declared.outcomes.Outcome.{Outcome}
 use Rattle.job_text.specs.declared.faults.LineWhy as of_jobs
@@ -38,7 +39,7 @@ use Rattle.adlb_command.proofs.Made.{none_taken}
 use Rattle.adlb_command.specs.Ends.{fault_made, fault_run, fault_said, fault_told, why_of, why_of_cities, why_of_flow}
 use Rattle.adlb_command.specs.Top.{DrillsAs, EndsAs, EndsAsChecked, EndsAsDrawn, EndsAsMade, EndsAsRun, EndsUnsaid, FlowsAs, SolvesAs}
 use Rattle.adlb_command.specs.Top.{ToursAs}
-use Rattle.adlb_command.specs.Words.{IsConfigOf, extras_of, settings_of}
+use Rattle.adlb_command.specs.Words.{IsConfigOf, extras_of, ranks_of, settings_of}
 use Rattle.adlb_command.specs.declared.ends.AnyKept.{AnyKept}
 use Rattle.adlb_command.specs.declared.ends.AnyKept.TheVariants.{Puzzles, Tours, Flows}
 use Rattle.adlb_command.specs.declared.faults.LineWhy.{LineWhy}
@@ -68,8 +69,8 @@ module _ (here : Scene) where
     own = None;
     fault_is = refl;
     kept_is = refl;
-    ended = solved_early (settings_of w.options) (IsConfigOf w.options.sizes w.options.inline) w.options.inline here here refl starts_none
-        (behind (extras_of w));
+    ended = solved_early (settings_of w.options) (ranks_of w.options.sizes w.options.inline)
+        (IsConfigOf w.options.sizes w.options.inline) w.options.inline here here refl starts_none (behind (extras_of w));
   }
   out_of_memory (Some Check) = record {
     checked = Err checks.Memory;
@@ -98,8 +99,8 @@ module _ (here : Scene) where
     own = None;
     fault_is = refl;
     kept_is = refl;
-    ended = drilled_early (settings_of options) (IsConfigOf options.sizes options.inline) options.inline here here refl starts_none count
-        seed reads_nothing;
+    ended = drilled_early (settings_of options) (ranks_of options.sizes options.inline) (IsConfigOf options.sizes options.inline)
+        options.inline here here refl starts_none count seed reads_nothing;
   }
   out_of_memory (Some (Tour w)) = record {
     met = Some runs.Memory;
@@ -113,7 +114,7 @@ module _ (here : Scene) where
     own = None;
     fault_is = refl;
     kept_is = refl;
-    ended = flowed_early (IsConfigOf w.sizes false) here here refl starts_none;
+    ended = flowed_early w.sizes.ranks (IsConfigOf w.sizes false) here here refl starts_none;
   }
 
   -- the words were not read
@@ -136,12 +137,15 @@ module _ (before after : Scene) (met : Option (Fault of_jobs.LineWhy)) (own : Op
     -- how `solve` ends by its run is how it ends by its words
     pub solved_said : (w : SolveWords) (extras : Extras) → settings ≡ settings_of w.options → extras ≡ extras_of w
         → IsConfigOf w.options.sizes w.options.inline config →
-        Solves settings (behind extras) (λ x. x ≡ config) w.options.inline before after met own → SolvesAs w before after met own
+        Solves settings (behind extras) config.ranks (λ x. x ≡ config) w.options.inline before after met own →
+        SolvesAs w before after met own
     solved_said w extras set extra is solved =
         let IsOf : Config → Type 0 = λ x. x ≡ config in
-        let here : Solves (settings_of w.options) (behind (extras_of w)) IsOf w.options.inline before after met own =
-        subst (λ (s : Settings). Solves s (behind (extras_of w)) IsOf w.options.inline before after met own) set
-        (subst (λ (e : Extras). Solves settings (behind e) IsOf w.options.inline before after met own) extra solved) in
+        let n : ℕ = ranks_of w.options.sizes w.options.inline in
+        let here : Solves (settings_of w.options) (behind (extras_of w)) n IsOf w.options.inline before after met own =
+        subst (λ (s : Settings). Solves s (behind (extras_of w)) n IsOf w.options.inline before after met own) set
+        (subst (λ (e : Extras). Solves settings (behind e) n IsOf w.options.inline before after met own) extra
+        (subst (λ k. Solves settings (behind extras) k IsOf w.options.inline before after met own) is.ranks solved)) in
         record {
           ends = here.ends;
           run = ran_as config before after (IsConfigOf w.options.sizes w.options.inline) is w.options.inline own here.run;
@@ -150,11 +154,14 @@ module _ (before after : Scene) (met : Option (Fault of_jobs.LineWhy)) (own : Op
     -- how `drill` ends by its run is how it ends by its words
     pub drilled_said : (count seed : ℕ) (options : RunOptions) → settings ≡ settings_of options
         → IsConfigOf options.sizes options.inline config →
-        Drills count seed settings (λ x. x ≡ config) options.inline before after met own → DrillsAs count seed options before after met own
+        Drills count seed settings config.ranks (λ x. x ≡ config) options.inline before after met own →
+        DrillsAs count seed options before after met own
     drilled_said count seed options set is drilled =
         let IsOf : Config → Type 0 = λ x. x ≡ config in
-        let here : Drills count seed (settings_of options) IsOf options.inline before after met own =
-        subst (λ (s : Settings). Drills count seed s IsOf options.inline before after met own) set drilled in
+        let n : ℕ = ranks_of options.sizes options.inline in
+        let here : Drills count seed (settings_of options) n IsOf options.inline before after met own =
+        subst (λ (s : Settings). Drills count seed s n IsOf options.inline before after met own) set
+        (subst (λ k. Drills count seed settings k IsOf options.inline before after met own) is.ranks drilled) in
         record {
           rest = here.rest;
           ends = here.ends;
@@ -175,9 +182,10 @@ toured_said before after met own config w is found = record {
 -- The words say a run over a flow, and this is how it ended.
 
 pub flowed_said : (before after : Scene) (met : Option (Fault FlowWhy)) (own : Option (Kept FlowOutcome)) (config : Config)
-    (w : RunWords) → IsConfigOf w.sizes false config → FindsValues (λ x. x ≡ config) before after met own → FlowsAs w before after met own
+    (w : RunWords) → IsConfigOf w.sizes false config → FindsValues config.ranks (λ x. x ≡ config) before after met own →
+    FlowsAs w before after met own
 flowed_said before after met own config w is found = record {
-  ends = found.ends;
+  ends = subst (λ n. flows.EndsWith n before after met own) is.ranks found.ends;
   run = ran_as config before after (IsConfigOf w.sizes false) is false own found.run;
 }
 

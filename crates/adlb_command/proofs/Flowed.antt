@@ -14,7 +14,7 @@ use Rattle.run_command.specs.declared.faults.Fault.TheVariants.{Input, Read, Wri
 use Rattle.adlb_command.specs.declared.ends.AnyKept.{AnyKept}
 use Rattle.adlb_command.specs.declared.ends.AnyKept.TheVariants.{Flows}
 
-module _ (before after : Scene) (k : Kept FlowOutcome) (bytes : List ℕ) (told : before.left ≡ Some bytes) where
+module _ (ranks : ℕ) (before after : Scene) (k : Kept FlowOutcome) (bytes : List ℕ) (told : before.left ≡ Some bytes) where
   kept_asked : (IsWritten : List ℕ → Type 0) →
       Keeps HasFlow RefusesLine (IsKept ArePrograms FollowsFlow) (λ flow k told. told ≡ flow_text flow) before.left IsWritten (Some k) →
       IsKept ArePrograms FollowsFlow (input_flow bytes) k
@@ -24,7 +24,8 @@ module _ (before after : Scene) (k : Kept FlowOutcome) (bytes : List ℕ) (told 
   nothing_kept : {P : Type 0} → Some k ≡ None → P
   nothing_kept e = absurd (cc)
 
-  kept_ended : (fault : Option (Fault FlowWhy)) → EndsWith before after fault (Some k) → IsKept ArePrograms FollowsFlow (input_flow bytes) k
+  kept_ended : (fault : Option (Fault FlowWhy)) → EndsWith ranks before after fault (Some k) →
+      IsKept ArePrograms FollowsFlow (input_flow bytes) k
   kept_ended None ends = kept_asked _ ends.1
   kept_ended (Some (Input line why)) ends = nothing_kept ends.3.none_kept
   kept_ended (Some Read) ends = nothing_kept ends.1.none_kept
@@ -36,8 +37,8 @@ module _ (before after : Scene) (k : Kept FlowOutcome) (bytes : List ℕ) (told 
 
   -- what is kept is of a run over the flow of the bytes
   pub kept_flow : (fault : Option (Fault FlowWhy)) (own : Option (Kept FlowOutcome)) → Some (Flows k) ≡ option_map Flows own →
-      EndsWith before after fault own → IsKept ArePrograms FollowsFlow (input_flow bytes) k
+      EndsWith ranks before after fault own → IsKept ArePrograms FollowsFlow (input_flow bytes) k
   kept_flow fault None same ends = absurd (cc)
   kept_flow fault (Some own) same ends =
       let is : own ≡ k = cc in
-      kept_ended fault (subst (λ (o : Kept FlowOutcome). EndsWith before after fault (Some o)) is ends)
+      kept_ended fault (subst (λ (o : Kept FlowOutcome). EndsWith ranks before after fault (Some o)) is ends)

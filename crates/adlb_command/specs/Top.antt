@@ -28,7 +28,7 @@ use Rattle.tour_app.specs.declared.outcomes.TourOutcome.{TourOutcome}
 use Rattle.tour_command.specs.Ends.{FindsTour}
 use Rattle.tour_search.specs.declared.faults.CitiesWhy.{CitiesWhy}
 use Rattle.adlb_command.specs.Ends.{fault_made, fault_run, fault_told, why_of, why_of_cities, why_of_flow}
-use Rattle.adlb_command.specs.Words.{IsConfigOf, extras_of, settings_of}
+use Rattle.adlb_command.specs.Words.{IsConfigOf, extras_of, ranks_of, settings_of}
 use Rattle.adlb_command.specs.declared.ends.AnyKept.{AnyKept}
 use Rattle.adlb_command.specs.declared.ends.AnyKept.TheVariants.{Puzzles, Tours, Flows}
 use Rattle.adlb_command.specs.declared.faults.LineWhy.{LineWhy}
@@ -50,12 +50,14 @@ pub record EndsUnsaid (before after : Scene) (fault : Option RunFault) (kept : O
 abbrev pub SolvesAs : SolveWords → Scene → Scene → Option (Fault of_jobs.LineWhy) → Option (Kept Outcome) → Type 0
 SolvesAs words before after met kept =
     let o = words.options in
-    Solves (settings_of o) (behind (extras_of words)) (IsConfigOf o.sizes o.inline) o.inline before after met kept
+    Solves (settings_of o) (behind (extras_of words)) (ranks_of o.sizes o.inline) (IsConfigOf o.sizes o.inline) o.inline
+    before after met kept
 
 -- how `drill` ends with these words
 abbrev pub DrillsAs : ℕ → ℕ → RunOptions → Scene → Scene → Option (Fault of_jobs.LineWhy) → Option (Kept Outcome) → Type 0
 DrillsAs count seed options before after met kept =
-    Drills count seed (settings_of options) (IsConfigOf options.sizes options.inline) options.inline before after met kept
+    let o = options in
+    Drills count seed (settings_of o) (ranks_of o.sizes o.inline) (IsConfigOf o.sizes o.inline) o.inline before after met kept
 
 -- how `tour` ends with these words
 abbrev pub ToursAs : RunWords → Scene → Scene → Option (Fault CitiesWhy) → Option (Kept TourOutcome) → Type 0
@@ -63,7 +65,7 @@ ToursAs words before after met kept = FindsTour (IsConfigOf words.sizes false) b
 
 -- how `flow` ends with these words
 abbrev pub FlowsAs : RunWords → Scene → Scene → Option (Fault FlowWhy) → Option (Kept FlowOutcome) → Type 0
-FlowsAs words before after met kept = FindsValues (IsConfigOf words.sizes false) before after met kept
+FlowsAs words before after met kept = FindsValues words.sizes.ranks (IsConfigOf words.sizes false) before after met kept
 
 -- a run of ranks ended so, with this fault of its own and this kept, which mean these
 pub record EndsAsRun {W O : Type 0} (means : W → LineWhy) (holds : Kept O → AnyKept) (ends : Option (Fault W) → Option (Kept O) → Type 0)

@@ -1,5 +1,5 @@
 -- What the words say of a run.
-use Rattle.std.specs.Prelude.{◌≡◌, Bool, if◌then◌else◌}
+use Rattle.std.specs.Prelude.{◌≡◌, ℕ, Bool, if◌then◌else◌}
 use Rattle.adlb_unit.specs.declared.configs.Config.{Config}
 use Rattle.command_words.specs.declared.commands.RunOptions.{RunOptions}
 use Rattle.command_words.specs.declared.commands.Sizes.{Sizes}
@@ -19,8 +19,12 @@ extras_of words = record { stats = words.stats; ledger = words.ledger }
 abbrev pub told_or_not : Bool → RunOptions → RunOptions
 told_or_not told options = record options { progress = told }
 
+-- how many ranks a run has: as the sizes say, but one in line
+abbrev pub ranks_of : Sizes → Bool → ℕ
+ranks_of sizes inline = if inline then 1 else sizes.ranks
+
 -- the numbers of a run: ranks, servers and their limit as the sizes say, but one rank and one server in line
 pub record IsConfigOf (sizes : Sizes) (inline : Bool) (config : Config) : Type 0 where
-  pub ranks : config.ranks ≡ (if inline then 1 else sizes.ranks)
+  pub ranks : config.ranks ≡ ranks_of sizes inline
   pub servers : config.servers ≡ (if inline then 1 else sizes.servers)
   pub limit : config.limit ≡ sizes.limit

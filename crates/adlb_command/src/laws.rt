@@ -1,6 +1,6 @@
 //! What follows from how a command ends.
 
-ghost use Rattle.std.specs.Prelude.{◌≡◌, ◌⊎◌, ◌≤◌, ◌<◌, ◌+◌, ◌^◌, ℕ, Bool, true, List, Option, Some, None, Ok, Err, length};
+ghost use Rattle.std.specs.Prelude.{◌≡◌, ◌⊎◌, ◌≤◌, ◌<◌, ◌+◌, ◌^◌, ℕ, Bool, List, Option, Some, None, Ok, Err, length};
 ghost use Rattle.adlb_io.specs.Outside.{Rises};
 ghost use Rattle.adlb_unit.specs.declared.configs.Config.{Config};
 ghost use Rattle.bag_ledger.specs.declared.entries.Entry.{Entry};
@@ -11,6 +11,7 @@ ghost use Rattle.command_words.specs.declared.commands.SolveWords.{SolveWords};
 ghost use Rattle.flow_app.specs.Reading.{flow_refused, input_flow};
 ghost use Rattle.flow_app.specs.declared.faults.FlowWhy.{FlowWhy};
 ghost use Rattle.flow_app.specs.declared.finishing.FlowOutcome.{FlowOutcome};
+ghost use Rattle.flow_bound_law.specs.Most.{most_calls as flow_calls};
 ghost use Rattle.flow_command.specs.Flows.{ArePrograms, FollowsFlow};
 ghost use Rattle.job_text.specs.declared.faults.LineWhy as of_jobs;
 ghost use Rattle.job_text.specs.Jobs.{input_jobs, input_refused};
@@ -28,7 +29,7 @@ ghost use Rattle.adlb_command.specs.declared.faults.LineWhy.{LineWhy};
 ghost use Rattle.adlb_command.specs.declared.faults.RunFault.{RunFault};
 ghost use Rattle.adlb_command.specs.Ends.{IsFine, why_of, why_of_cities, why_of_flow};
 ghost use Rattle.adlb_command.specs.Top.{EndsAs};
-ghost use Rattle.adlb_command.specs.Words.{told_or_not};
+ghost use Rattle.adlb_command.specs.Words.{ranks_of, told_or_not};
 
 use ledger_file::text_laws;
 use made_jobs::made_laws;
@@ -43,10 +44,10 @@ use made_law::made_is_accepted;
 /// What follows of a source that tells its bytes, if no read failed. `solve`: an accepted input is answered, if no
 /// write failed and no start was refused either (`complete`). A refused one is refused at its first such line
 /// (`refused`), and one that is too long is told as such (`overlong`). In each case memory may fail, and in the first
-/// the stamps may end. With `--inline` they do so only if one rank may make 2^34 calls for the jobs of the input
-/// (`in_line`), or for those that are made (`drilled_in_line`). So it is of `tour` (`tour_complete`, `tour_refused`,
-/// `tour_overlong`) and of `flow` (`flow_complete`, `flow_refused`, `flow_overlong`), but for the last. What is kept of `flow` is of a run
-/// over the flow of the input, of which `flow_laws` says which rules its ledger enters (`flow_kept`).
+/// the stamps may end. They do so only if all ranks together may begin 2^34 calls for the jobs of the input (`short`),
+/// or for those that are made (`drilled_short`). So it is of `flow` (`flow_complete`, `flow_refused`, `flow_overlong`,
+/// `flow_short`), and of `tour` but for the last (`tour_complete`, `tour_refused`, `tour_overlong`). What is kept of
+/// `flow` is of a run over the flow of the input, of which `flow_laws` says which rules its ledger enters (`flow_kept`).
 ///
 /// `check`: a text of a ledger is told (`checked`), and any other input is refused at its first
 /// line that is not what is due (`bad`). One that is too long is told as such (`long`). In each case memory may fail.
@@ -131,13 +132,17 @@ pub fn end_laws()
     ensures drilled { (count seed : ℕ) (options : RunOptions) (before after : Scene) (fault : Option RunFault) (kept : Option AnyKept) →
         EndsAs (Some (Command.Drill count seed options)) before after fault kept → count ≤ 100000 →
         (Rises before.writes after.writes → ⊥) → (Rises before.refused after.refused → ⊥) → IsFine fault }
-    ensures in_line { (words : SolveWords) (before after : Scene) (fault : Option RunFault) (kept : Option AnyKept) (bytes : List ℕ) →
-        EndsAs (Some (Command.Solve words)) before after fault kept → before.left ≡ Some bytes → words.options.inline ≡ true →
-        most_calls words.options.budget words.options.grain 1 (input_jobs bytes) < 2 ^ 34 →
+    ensures short { (words : SolveWords) (before after : Scene) (fault : Option RunFault) (kept : Option AnyKept) (bytes : List ℕ) →
+        EndsAs (Some (Command.Solve words)) before after fault kept → before.left ≡ Some bytes →
+        most_calls words.options.budget words.options.grain (ranks_of words.options.sizes words.options.inline) (input_jobs bytes) < 2 ^ 34 →
         IsFine fault → (fault ≡ None) ⊎ (fault ≡ Some RunFault.Memory) }
-    ensures drilled_in_line { (count seed : ℕ) (options : RunOptions) (before after : Scene) (fault : Option RunFault) (kept : Option AnyKept) →
-        EndsAs (Some (Command.Drill count seed options)) before after fault kept → options.inline ≡ true →
-        most_calls options.budget options.grain 1 (input_jobs (made_text count seed)) < 2 ^ 34 →
+    ensures drilled_short { (count seed : ℕ) (options : RunOptions) (before after : Scene) (fault : Option RunFault) (kept : Option AnyKept) →
+        EndsAs (Some (Command.Drill count seed options)) before after fault kept →
+        most_calls options.budget options.grain (ranks_of options.sizes options.inline) (input_jobs (made_text count seed)) < 2 ^ 34 →
+        IsFine fault → (fault ≡ None) ⊎ (fault ≡ Some RunFault.Memory) }
+    ensures flow_short { (words : RunWords) (before after : Scene) (fault : Option RunFault) (kept : Option AnyKept) (bytes : List ℕ) →
+        EndsAs (Some (Command.Flow words)) before after fault kept → before.left ≡ Some bytes →
+        flow_calls words.sizes.ranks (input_flow bytes) < 2 ^ 34 →
         IsFine fault → (fault ≡ None) ⊎ (fault ≡ Some RunFault.Memory) }
     ensures made { (count seed : ℕ) (before after : Scene) (fault : Option RunFault) (kept : Option AnyKept) →
         EndsAs (Some (Command.Make count seed)) before after fault kept → (Rises before.writes after.writes → ⊥) →

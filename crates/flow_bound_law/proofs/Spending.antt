@@ -1,19 +1,21 @@
 -- How many calls a rank makes. Each rule that it puts has what its put, the reserve and the fetch that bring it to a rank, and all that the
 -- rank does with it cost. What is sent carries its part to whoever gets it.
 use Rattle.std.proofs.Common.{◌≡◌, ◌≤◌, ◌+◌, ◌*◌, ℕ, Bool, true, false, cond, ◌||◌, List, [], ◌∷◌, ◌++◌, length, Contains}
-use Rattle.std.proofs.Common.{Option, Some, None, refl, sym, ap, subst, arith, sum_by}
+use Rattle.std.proofs.Common.{Option, Some, None, refl, sym, ap, ◌∙◌, subst, arith, sum_by}
 use Rattle.std.specs.Prelude.{is_some}
 use Rattle.std.proofs.lemmas.List.{length-append, take-append-drop}
 use Rattle.std.proofs.lemmas.List.Elements.{All-nil}
 use Rattle.std.proofs.lemmas.List.Sums.{sum_by-append, sum_by-cons}
 use Rattle.adlb_unit.specs.declared.names.CommonRef.{CommonRef}
 use Rattle.adlb_unit.specs.declared.notes.UnitNote.{UnitNote}
+use Rattle.bag_ledger.specs.declared.entries.Answer.{Answer as Reply}
 use Rattle.bag_ledger.specs.declared.entries.Answer.TheVariants as answers
 use Rattle.bag_ledger.specs.declared.entries.Call.{Call}
 use Rattle.bag_ledger.specs.declared.entries.Call.TheVariants as calls_to
 use Rattle.bag_ledger.specs.declared.entries.Said.{Said}
 use Rattle.bag_ledger.specs.Bodies.{bytes_of}
 use Rattle.balance_law.specs.Orderly.{IsNext}
+use Rattle.balance_law.proofs.Causes.{batch_behind, got-append, held_after, sent-append}
 use Rattle.balance_law.specs.Parcels.{Parcel, batch_after, common_of, got, granted_note, own_of, parcel_got, parcel_read, parcel_sent, sent}
 use Rattle.cover_law.specs.Grants.{AreOfGrants, IsOfGrant}
 use Rattle.flow_law.specs.Flows.{apply}
@@ -23,7 +25,8 @@ use Rattle.work_law.specs.Books.{said_of}
 use Rattle.work_law.specs.Work.{IsWork, fetched_unit, own_bytes, put_of}
 use Rattle.work_law.proofs.Flow.{own_behind}
 use Rattle.flow_run_law.specs.Units.{AimsAt, Answer, AreForms, FlowUnit, Forms, Rule, flows, untargeted}
-use Rattle.flow_run_law.specs.Desk.{Desk, Goes, IsReady, Moves, again_refused, again_stopped, again_taken, answer_refused, answer_stopped}
+use Rattle.flow_run_law.specs.Desk.{Desk, Goes, IsFree, IsReady, Moves, again_refused, again_stopped, again_taken}
+use Rattle.flow_run_law.specs.Desk.{answer_refused, answer_stopped}
 use Rattle.flow_run_law.specs.Desk.{answer_taken, at_start, brought, fetched, granted, refused, rule_refused, rule_stopped, rule_taken}
 use Rattle.flow_run_law.specs.Desk.{told, unit_of}
 use Rattle.flow_run_law.proofs.Order.{ordered}
@@ -89,6 +92,11 @@ free_owes : (d : Desk) → d.held ≡ None → d.ended ≡ false → owed d ≡ 
 unfolding owed
 free_owes d none live = rw (none, live) refl
 
+-- and of one that keeps an answer
+keeping : (d : Desk) (x : ℕ × ℕ) (rest : List (ℕ × ℕ)) → d.held ≡ None → d.ended ≡ false → d.kept ≡ x ∷ rest → 3 ≤ credit d
+unfolding credit
+keeping d x rest none live keeps = rw (none, live) (omega (arith, ap length keeps))
+
 -- how many rules a rank with this flow, or with none, may still put
 abbrev pub left_of : Option (List Definition) → List ℕ → ℕ
 left_of None put = 0
@@ -105,6 +113,10 @@ of_next ranks None calls_to.SetDone next = next
 of_next ranks (Some note) calls_to.SetDone next = next
 of_next ranks (Some note) (calls_to.Fetch id) next = next
 of_next ranks held call next = tt
+
+pub none_grants : (held : Option UnitNote) → AreOfGrants held []
+unfolding AreOfGrants
+none_grants held = tt
 
 -- what a parcel is worth, by the unit that is read of it
 abbrev pub worth : Forms → Parcel → ℕ
@@ -230,6 +242,73 @@ module _ (ranks : ℕ) (F : Forms) (forms : AreForms ranks F) (flow : Option (Li
       rw (said, is) (rw (free.none_owed, free.none_held, free.live) (omega arith))
   spends d s next (fetched note bytes holds none live said is) = rw (said, is) (fetched_spends d note bytes holds none live)
 
+  -- The call that such a rank begins next, whatever its answer.
+
+  -- it costs what the desk has left, and two more
+  abbrev CanPay : Desk → Call → Type 0
+  CanPay d call = (a : Reply) → 1 + sum_by (worth F) (parcel_sent None call a) + owed d ≤ credit d + 8 * left_of flow d.put + 2
+
+  -- a put brings nothing but its unit
+  sent_most : (u : FlowUnit) → F.fits u ≡ true → (a : Reply)
+      → sum_by (worth F) (parcel_sent None (put_of (flows F) u) a) ≤ worth_of (Some u)
+  sent_most u fits answers.Fine = omega (arith, sent_worth u fits)
+  sent_most u fits _ = omega arith
+
+  put_pays : (d : Desk) (s : Said) (u : FlowUnit) → F.fits u ≡ true → s.call ≡ put_of (flows F) u →
+      1 + worth_of (Some u) + owed d ≤ credit d + 8 * left_of flow d.put + 2 → CanPay d s.call
+  put_pays d s u fits is enough a =
+      omega (arith, enough, sent_most u fits a, ap (λ c. sum_by (worth F) (parcel_sent None c a)) is)
+
+  rule_pays : (d : Desk) (s : Said) (g : List Definition) (i : ℕ) (op : Op) (a b : ℕ) → flow ≡ Some g → IsFree d →
+      IsReady g d.stored i op a b → (Contains d.put i → ⊥) → F.fits (Rule i op a b) ≡ true →
+      s.call ≡ put_of (flows F) (Rule i op a b) → CanPay d s.call
+  rule_pays d s g i op a b e free ready new fits is =
+      let less = puts_one g d i op a b e ready new in
+      put_pays d s (Rule i op a b) fits is (omega (arith, less, free_owes d free.none_held free.live))
+
+  answer_pays : (d : Desk) (s : Said) (x : ℕ × ℕ) (rest : List (ℕ × ℕ)) → d.owed ≡ x ∷ rest → d.held ≡ None → d.ended ≡ false →
+      F.fits (unit_of x) ≡ true → s.call ≡ put_of (flows F) (unit_of x) → CanPay d s.call
+  answer_pays d s x rest owes none live fits is =
+      put_pays d s (unit_of x) fits is (omega (arith, owing d x rest owes none live, free_owes d none live))
+
+  again_pays : (d : Desk) (s : Said) (x : ℕ × ℕ) (rest : List (ℕ × ℕ)) → IsFree d → d.kept ≡ x ∷ rest → F.fits (unit_of x) ≡ true →
+      s.call ≡ put_of (flows F) (unit_of x) → CanPay d s.call
+  again_pays d s x rest free keeps fits is =
+      put_pays d s (unit_of x) fits is
+      (omega (arith, keeping d x rest free.none_held free.live keeps, free_owes d free.none_held free.live))
+
+  other_pays : (d : Desk) (s : Said) (call : Call) → s.call ≡ call → ((a : Reply) → parcel_sent None call a ≡ []) → CanPay d s.call
+  other_pays d s call is none a =
+      omega (
+        arith,
+        ap (λ c. sum_by (worth F) (parcel_sent None c a)) is,
+        ap (sum_by (worth F)) (none a),
+        owes_one d,
+      )
+
+  move_pays : (d : Desk) (s : Said) (next : Desk) → Moves F flow d s next → CanPay d s.call
+  move_pays d s next (rule_taken g i op a b e free ready new fits said is) =
+      rule_pays d s g i op a b e free ready new fits (ap (λ (t : Said). t.call) said)
+  move_pays d s next (rule_refused g i op a b e free ready new fits said is) =
+      rule_pays d s g i op a b e free ready new fits (ap (λ (t : Said). t.call) said)
+  move_pays d s next (rule_stopped g i op a b end e free ready new fits said is) =
+      rule_pays d s g i op a b e free ready new fits (ap (λ (t : Said). t.call) said)
+  move_pays d s next (answer_taken x rest owes none live fits said is) =
+      answer_pays d s x rest owes none live fits (ap (λ (t : Said). t.call) said)
+  move_pays d s next (answer_refused x rest owes none live fits said is) =
+      answer_pays d s x rest owes none live fits (ap (λ (t : Said). t.call) said)
+  move_pays d s next (answer_stopped x rest end owes none live fits said is) =
+      answer_pays d s x rest owes none live fits (ap (λ (t : Said). t.call) said)
+  move_pays d s next (again_taken x rest e free keeps once fits said is) =
+      again_pays d s x rest free keeps fits (ap (λ (t : Said). t.call) said)
+  move_pays d s next (again_refused x rest e free keeps once fits said is) =
+      again_pays d s x rest free keeps fits (ap (λ (t : Said). t.call) said)
+  move_pays d s next (again_stopped x rest end e free keeps once fits said is) =
+      again_pays d s x rest free keeps fits (ap (λ (t : Said). t.call) said)
+  move_pays d s next (granted note free may said is) = other_pays d s _ (ap (λ (t : Said). t.call) said) (λ a. refl)
+  move_pays d s next (told end free may said is) = other_pays d s _ (ap (λ (t : Said). t.call) said) (λ a. refl)
+  move_pays d s next (fetched note bytes holds none live said is) = other_pays d s _ (ap (λ (t : Said). t.call) said) (λ a. refl)
+
   -- All calls.
 
   pub all_spend : AimsAt F ranks → (d : Desk) (said : List Said) (last : Desk) → Goes F flow d said last
@@ -267,6 +346,45 @@ module _ (ranks : ℕ) (F : Forms) (forms : AreForms ranks F) (flow : Option (Li
       let all = all_spend aims at_start said last goes in
       omega (arith, all, owes_one last)
 
+  -- the calls before the last, and that
+  goes_then : (d : Desk) (own : List Said) (s : Said) (last : Desk) → Goes F flow d (own ++ s ∷ []) last
+      → (mid : Desk) × Goes F flow d own mid × Moves F flow mid s last
+  goes_then d [] s last goes = (d, refl, subst (λ (x : Desk). Moves F flow d s x) goes.2 goes.1)
+  goes_then d (t ∷ own) s last goes =
+      let later = goes_then goes.0 own s last goes.2 in (later.0, (goes.0, goes.1, later.1), later.2)
+
+  -- no batch goes on
+  goes_batch : AimsAt F ranks → (d : Desk) (said : List Said) (last : Desk) → Goes F flow d said last → batch_behind None said ≡ None
+  unfolding batch_behind
+  goes_batch aims d [] last goes = refl
+  goes_batch aims d (s ∷ said) last goes =
+      let order = ordered F is_work flow ranks d s goes.0 aims goes.1 in
+      ap (λ o. batch_behind o said) order.no_batch ∙ goes_batch aims goes.0 said last goes.2
+
+  -- the calls of a rank so far and the next one, which has its answer, are as many, and two more
+  pub next_spends : AimsAt F ranks → (own : List Said) (s : Said) (answer : Reply) (last : Desk)
+      → Goes F flow at_start (own ++ said_of s.call answer ∷ []) last
+      → length own + 1 + sum_by (worth F) (sent None (own ++ s ∷ []))
+      ≤ 8 * left_of flow [] + sum_by (worth F) (got None (own ++ s ∷ [])) + 2
+  unfolding credit owed sent
+  next_spends aims own s answer last goes =
+      let then = goes_then at_start own (said_of s.call answer) last goes in
+      let all = all_spend aims at_start own then.0 then.1 in
+      let pays = move_pays then.0 (said_of s.call answer) last then.2 s.answer in
+      let batch = goes_batch aims at_start own then.0 then.1 in
+      omega (
+        arith,
+        all,
+        pays,
+        ap (sum_by (worth F)) (sent-append None own (s ∷ [])),
+        ap (λ o. sum_by (worth F) (parcel_sent o s.call s.answer)) batch,
+        ap (sum_by (worth F)) (got-append None own (s ∷ [])),
+        sum_by-append (worth F) (sent None own) (sent (batch_behind None own) (s ∷ [])),
+        sum_by-append (worth F) (parcel_sent (batch_behind None own) s.call s.answer)
+            (sent (batch_after (batch_behind None own) s.call s.answer) []),
+        sum_by-append (worth F) (got None own) (got (held_after None own) (s ∷ [])),
+      )
+
   -- and it fetches what it was granted
   pub goes_grants : AimsAt F ranks → (d : Desk) (said more : List Said) (last : Desk) → Goes F flow d said last → AreOfGrants last.held more
       → AreOfGrants d.held (said ++ more)
@@ -277,3 +395,13 @@ module _ (ranks : ℕ) (F : Forms) (forms : AreForms ranks F) (flow : Option (Li
         of_next ranks d.held s.call order.comes,
         subst (λ h. AreOfGrants h (said ++ more)) order.held (goes_grants aims goes.0 said more last goes.2 later),
       )
+
+  -- the call that it begins next is of what it was granted
+  pub next_grants : AimsAt F ranks → (own : List Said) (s : Said) (answer : Reply) (last : Desk)
+      → Goes F flow at_start (own ++ said_of s.call answer ∷ []) last → AreOfGrants None (own ++ s ∷ [])
+  unfolding AreOfGrants
+  next_grants aims own s answer last goes =
+      let then = goes_then at_start own (said_of s.call answer) last goes in
+      let order = ordered F is_work flow ranks then.0 (said_of s.call answer) last aims then.2 in
+      goes_grants aims at_start own (s ∷ []) then.0 then.1
+      (of_next ranks then.0.held s.call order.comes, none_grants (granted_note s.answer))

@@ -2,6 +2,7 @@
 use Rattle.std.specs.Prelude.{◌≡◌, ◌<◌, List, [], ◌∷◌, ◌++◌, Option, None}
 use Rattle.adlb_unit.specs.declared.configs.Config.{Config}
 use Rattle.adlb_unit.specs.declared.names.Rank.{Rank}
+use Rattle.bag_ledger.specs.declared.entries.Answer.{Answer}
 use Rattle.bag_ledger.specs.declared.entries.Call.{Call}
 use Rattle.bag_ledger.specs.declared.entries.Entry.{Entry}
 use Rattle.bag_ledger.specs.declared.entries.Said.{Said}
@@ -10,6 +11,7 @@ use Rattle.bag_ledger.specs.Runs.{calls}
 use Rattle.balance_law.specs.Orderly.{finish}
 use Rattle.cover_law.specs.Begun.{pending_of}
 use Rattle.flow_law.specs.declared.Definition.{Definition}
+use Rattle.work_law.specs.Books.{said_of}
 use Rattle.flow_run_law.specs.Desk.{Desk, Goes, at_start}
 use Rattle.flow_run_law.specs.Run.{flow_of}
 use Rattle.flow_run_law.specs.Units.{Forms}
@@ -18,6 +20,10 @@ use Rattle.flow_run_law.specs.Units.{Forms}
 pub data HasCome (F : Forms) (flow : Option (List Definition)) (said : List Said) (pending : Option Call) : Type 0 where
   -- the calls are those of the program so far, whatever is pending
   works : (desk : Desk) → Goes F flow at_start said desk → HasCome F flow said pending
+  -- the run has the answer of the call that was begun after those of the program, which is the next with some answer; the rank has not
+  -- heard it
+  hears : (own : List Said) (s : Said) (answer : Answer) (desk : Desk) → Goes F flow at_start (own ++ said_of s.call answer ∷ []) desk →
+      said ≡ own ++ s ∷ [] → pending ≡ None → HasCome F flow said pending
   -- after those of the program the rank finishes, and nothing is pending
   leaves : (own : List Said) (desk : Desk) → Goes F flow at_start own desk → said ≡ own ++ finish ∷ [] → pending ≡ None →
       HasCome F flow said pending

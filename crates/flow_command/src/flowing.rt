@@ -21,7 +21,7 @@ pub fn flow<S: Source, K: Sink, T: Spawner, G: Gate + Send + Drop + 'static>(
     threads: &mut T,
     gate: G,
 ) -> Ended<FlowWhy, FlowOutcome>
-    ensures finds { FindsValues (λ c. c ≡ config)
+    ensures finds { FindsValues config.ranks (λ c. c ≡ config)
         (scene (S.left input.old) (S.faults input.old) (K.taken output.old) (K.faults output.old) (K.all_flushed output.old)
         (T.faults threads.old) (T.starts threads.old))
         (scene (S.left input.new) (S.faults input.new) (K.taken output.new) (K.faults output.new) (K.all_flushed output.new)

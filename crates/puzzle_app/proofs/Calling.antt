@@ -65,8 +65,8 @@ pub record OfEach (grain : ℕ) (P : Books → Said → Books → Type 0) : Type
 pub of_move : (grain : ℕ) (P : Books → Said → Books → Type 0) → OfEach grain P → (b : Books) (s : Said) (next : Books) →
     Moves grain b s next → P b s next
 of_move grain P each b s next (accepted x rest on came fits e f g) = moved P e f g (each.at_accepted x rest on came fits)
-of_move grain P each b s next (rejected x rest on came e f g) = moved P e f g (each.at_rejected x rest on came)
-of_move grain P each b s next (stopped x rest on came end e f g) = moved P e f g (each.at_stopped x rest on came end)
+of_move grain P each b s next (rejected x rest on came fits e f g) = moved P e f g (each.at_rejected x rest on came)
+of_move grain P each b s next (stopped x rest on came end fits e f g) = moved P e f g (each.at_stopped x rest on came end)
 of_move grain P each b s next (begun common jobs rest came e f g) = moved P e f g (each.at_begun common jobs rest came)
 of_move grain P each b s next (refused_by common jobs rest came e f g) = moved P e f g (each.at_refused common jobs rest came)
 of_move grain P each b s next (stopped_before common jobs rest came end e f g) = moved P e f g

@@ -98,16 +98,16 @@ received_same grain a e f rest on came more =
 -- a put that is rejected is a step, and the rank works the unit itself
 pub rejected_is : (p : PuzzleProgram) (said new : List Said) (d e f : Desk) (x : Made) (common : List ℕ) (rest : List Task)
     (on : Option (List ℕ)) →
-    IsGoing p said d rest on → bytes_on on ≡ common → Popped x d e → new ≡ said ++ said_of (put_of x) Rejected ∷ [] →
+    IsGoing p said d rest on → bytes_on on ≡ common → Popped x d e → IsUnit x → new ≡ said ++ said_of (put_of x) Rejected ∷ [] →
     Receives p.settings.grain (arrival common x) e f → IsGoing p new f rest on
-rejected_is p said new d e f x common rest on is bytes popped one more =
+rejected_is p said new d e f x common rest on is bytes popped fits one more =
     let a : Arrival = arrival (bytes_on on) x in
     let own : Receives p.settings.grain a e f = subst (λ c. Receives p.settings.grain (arrival c x) e f) (sym bytes) more in
     record {
       came = is.came ++ a ∷ [];
       goes = one_more p said new (on_desk d.waiting.items rest on is.came) (on_desk f.waiting.items rest on (is.came ++ a ∷ []))
           (said_of (put_of x) Rejected) is.goes one
-          (rejected x (put_all e.waiting.items ++ rest) on is.came (desk_same rest on is.came popped.first) refl
+          (rejected x (put_all e.waiting.items ++ rest) on is.came fits (desk_same rest on is.came popped.first) refl
           (received_same p.settings.grain a e f rest on is.came own));
       tally = tally_one p is.came (length said) (length new) a e f
           (tally_same p is.came (length said) (length said) d e is.tally popped.same (omega arith)) own
@@ -117,13 +117,13 @@ rejected_is p said new d e f x common rest on is bytes popped one more =
 -- a put that ends stops the program
 pub stopped_is : (p : PuzzleProgram) (said new : List Said) (d e : Desk) (x : Made) (end : told_end.End) (rest : List Task)
     (on : Option (List ℕ)) →
-    IsGoing p said d rest on → Popped x d e → new ≡ said ++ said_of (put_of x) (Ended end) ∷ [] → IsStopped p new e on
-stopped_is p said new d e x end rest on is popped one = record {
+    IsGoing p said d rest on → Popped x d e → IsUnit x → new ≡ said ++ said_of (put_of x) (Ended end) ∷ [] → IsStopped p new e on
+stopped_is p said new d e x end rest on is popped fits one = record {
   left = put_all e.waiting.items ++ rest;
   came = is.came;
   goes = one_more p said new (on_desk d.waiting.items rest on is.came) (shut (put_all e.waiting.items ++ rest) on is.came)
       (said_of (put_of x) (Ended end)) is.goes one
-      (stopped x (put_all e.waiting.items ++ rest) on is.came end (desk_same rest on is.came popped.first) refl refl);
+      (stopped x (put_all e.waiting.items ++ rest) on is.came end fits (desk_same rest on is.came popped.first) refl refl);
   tally = tally_same p is.came (length said) (length new) d e is.tally popped.same (long said new (said_of (put_of x) (Ended end)) one);
 }
 
@@ -316,13 +316,13 @@ passes_so p said d rest on false is = stopped_so p said d on is
 -- a unit that no server takes, when memory for its work is short
 pub rejected_so : (p : PuzzleProgram) (said new : List Said) (d e : Desk) (x : Made) (rest : List Task) (on : Option (List ℕ)) →
     IsGoing p said d rest on →
-    Popped x d e → new ≡ said ++ said_of (put_of x) Rejected ∷ [] → IsSoFar p new
-rejected_so p said new d e x rest on is popped one = record {
+    Popped x d e → IsUnit x → new ≡ said ++ said_of (put_of x) Rejected ∷ [] → IsSoFar p new
+rejected_so p said new d e x rest on is popped fits one = record {
   last = received p.settings.grain (arrival (bytes_on on) x) (put_all e.waiting.items ++ rest) on is.came;
   goes = one_more p said new (on_desk d.waiting.items rest on is.came)
       (received p.settings.grain (arrival (bytes_on on) x) (put_all e.waiting.items ++ rest) on is.came)
       (said_of (put_of x) Rejected) is.goes one
-      (rejected x (put_all e.waiting.items ++ rest) on is.came (desk_same rest on is.came popped.first) refl refl);
+      (rejected x (put_all e.waiting.items ++ rest) on is.came fits (desk_same rest on is.came popped.first) refl refl);
 }
 
 -- a unit that was fetched

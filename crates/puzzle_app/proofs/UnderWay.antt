@@ -1,5 +1,5 @@
 -- The calls of a rank whose link fails.
-use Rattle.std.proofs.Common.{◌≡◌, ℕ, Bool, List, [], ◌∷◌, ◌++◌, Option, Some, None, refl, sym, ap, subst, inl, inr}
+use Rattle.std.proofs.Common.{◌≡◌, ℕ, Bool, List, [], ◌∷◌, ◌++◌, Option, Some, None, IfSome, refl, sym, ap, subst, inl, inr}
 use Rattle.adlb_unit.specs.declared.notes.End.TheVariants.{Exhausted}
 use Rattle.adlb_unit.specs.declared.notes.Trouble.{Trouble}
 use Rattle.bag_ledger.specs.declared.entries.Answer.{Answer}
@@ -7,6 +7,7 @@ use Rattle.bag_ledger.specs.declared.entries.Answer.TheVariants.{Fine, Ended, Bo
 use Rattle.bag_ledger.specs.declared.entries.Call.{Call}
 use Rattle.bag_ledger.specs.declared.entries.Call.TheVariants.{Reserve, Fetch, BeginBatch, EndBatch}
 use Rattle.bag_ledger.specs.declared.entries.Said.{Said}
+use Rattle.job_units.specs.Forms.{IsUnit}
 use Rattle.job_units.specs.declared.jobs.Job as units
 use Rattle.job_units.specs.declared.units.Made.{Made}
 use Rattle.job_units.specs.Puts.{put_of}
@@ -52,15 +53,19 @@ can_pend p said begun call answer so more (inr some) = subst (λ x. IsUnderWay p
 plus_same : (said new : List Said) (s : Said) → new ≡ said → new ++ s ∷ [] ≡ said ++ s ∷ []
 plus_same said new s same = ap (λ t. t ++ s ∷ []) same
 
--- a put failed
+-- a put failed; what it began is the put of a unit that can be put
 pub put_way : (p : PuzzleProgram) (said new : List Said) (d e : Desk) (x : Made) (rest : List Task) (on : Option (List ℕ))
     (begun : Option Call) →
-    IsGoing p said d rest on → Popped x d e → new ≡ said → Pends begun (put_of x) → IsUnderWay p new begun
-put_way p said new d e x rest on begun is popped same pends =
+    IsGoing p said d rest on → Popped x d e → new ≡ said → Pends begun (put_of x) → IfSome begun (λ call. IsUnit x) →
+    IsUnderWay p new begun
+put_way p said new d e x rest on begun is popped same (inl none) form =
+    subst (λ o. IsUnderWay p new o) (sym none) (going_so p said new d rest on is same)
+put_way p said new d e x rest on begun is popped same (inr some) form =
     let s : Said = said_of (put_of x) (Ended Exhausted) in
+    let fits : IsUnit x = subst (λ o. IfSome o (λ call. IsUnit x)) some form in
     can_pend p new begun (put_of x) (Ended Exhausted) (going_so p said new d rest on is same)
-    (stopped_so p (new ++ s ∷ []) e on (stopped_is p said (new ++ s ∷ []) d e x Exhausted rest on is popped
-    (plus_same said new s same))) pends
+    (stopped_so p (new ++ s ∷ []) e on (stopped_is p said (new ++ s ∷ []) d e x Exhausted rest on is popped fits
+    (plus_same said new s same))) (inr some)
 
 -- the beginning of a batch failed
 pub begin_way : (p : PuzzleProgram) (said new : List Said) (d : Desk) (common : List ℕ) (jobs : List units.Job) (rest : List Task)

@@ -76,11 +76,11 @@ pub data Moves (grain : ℕ) (b : Books) (s : Said) (next : Books) : Type 0 wher
   accepted : (unit : Made) (rest : List Task) (on : Option (List ℕ)) (came : List Arrival) → IsUnit unit →
       b ≡ going (Put unit ∷ rest) on came → s ≡ said_of (put_of unit) Fine → next ≡ going rest on came → Moves grain b s next
   -- no server takes it: the unit comes to this rank
-  rejected : (unit : Made) (rest : List Task) (on : Option (List ℕ)) (came : List Arrival) →
+  rejected : (unit : Made) (rest : List Task) (on : Option (List ℕ)) (came : List Arrival) → IsUnit unit →
       b ≡ going (Put unit ∷ rest) on came → s ≡ said_of (put_of unit) Rejected →
       next ≡ received grain (arrival (unwrap_or on []) unit) rest on came → Moves grain b s next
   -- it is told an end at the put
-  stopped : (unit : Made) (rest : List Task) (on : Option (List ℕ)) (came : List Arrival) (end : told_end.End) →
+  stopped : (unit : Made) (rest : List Task) (on : Option (List ℕ)) (came : List Arrival) (end : told_end.End) → IsUnit unit →
       b ≡ going (Put unit ∷ rest) on came → s ≡ said_of (put_of unit) (Ended end) → next ≡ shut rest on came → Moves grain b s next
   -- it begins a batch, and a server keeps the common bytes: its jobs are put, and it is ended
   begun : (common : List ℕ) (jobs : List Job) (rest : List Task) (came : List Arrival) →

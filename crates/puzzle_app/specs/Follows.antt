@@ -5,7 +5,6 @@ use Rattle.bag_ledger.specs.declared.entries.Answer.{Answer}
 use Rattle.bag_ledger.specs.declared.entries.Call.{Call}
 use Rattle.bag_ledger.specs.declared.entries.Said.{Said}
 use Rattle.job_report.specs.declared.outcomes.Outcome.{Outcome}
-use Rattle.job_units.specs.declared.units.Made.{Made}
 use Rattle.job_units.specs.Puts.{counts}
 use Rattle.puzzle_app.specs.Arrivals.{Arrival, answers_in, makes, over_in, solutions_in}
 use Rattle.puzzle_app.specs.Books.{Books, Goes, going, said_of, shut}

@@ -1,6 +1,6 @@
 //! The calls of the puzzle program over any link.
 
-ghost use Rattle.std.specs.Prelude.{◌≡◌, ◌<◌, ◌≤◌, ◌^◌, ◌++◌, ◌∷◌, [], ℕ, length, Some, None, Ok, Err, false, IfOk, IfErr, OnOk, OnErr};
+ghost use Rattle.std.specs.Prelude.{◌≡◌, ◌<◌, ◌≤◌, ◌^◌, ◌++◌, ◌∷◌, [], ℕ, length, Some, None, Ok, Err, false, IfOk, IfErr, IfSome, OnOk, OnErr};
 ghost use Rattle.bag_ledger.specs.declared.entries.Call.{Call};
 ghost use Rattle.job_units.specs.Forms.{IsUnit};
 ghost use Rattle.job_units.specs.Puts.{put_of};
@@ -40,6 +40,7 @@ pub fn put<A: Adlb>(alloc: Global, link: &mut A, made: &Made) -> Result<Reply, T
     ensures form { OnOk result (IsUnit made.now) }
     ensures same { OnErr result ((A.link link.new).said ≡ (A.link link.old).said) }
     ensures begun { Pends (unanswered (A.link link.new).failed (A.link link.new).begun) (put_of made.now) }
+    ensures begun_form { IfSome (unanswered (A.link link.new).failed (A.link link.new).begun) (λ call. IsUnit made.now) }
     ensures kept { Keeps (A.link link.old) (A.link link.new) (A.link link.old).batch result }
 {
     let Ok(putting) = made.putting(alloc) else {

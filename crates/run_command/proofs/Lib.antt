@@ -2,6 +2,7 @@ pub mod Asking
 pub mod Ending
 pub mod Hearing
 pub mod Keeping
+pub mod Late
 pub mod Laws
 pub mod RunKept
 pub mod Running

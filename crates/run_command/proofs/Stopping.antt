@@ -1,13 +1,12 @@
 -- Why a run over what an input asks has no answer.
 use Rattle.std.proofs.Common.{◌≡◌, ℕ, List, Option, Some, Result, Err, Ok, IfErr, refl, sym, subst}
 use Rattle.adlb_io.specs.Outside.{Rises}
-use Rattle.adlb_threads.specs.Runs.{IsFaultOf}
 use Rattle.adlb_threads.specs.declared.faults.RanFault.{RanFault}
 use Rattle.adlb_threads.specs.declared.faults.RanFault.TheVariants as runs
 use Rattle.adlb_unit.specs.declared.notes.Trouble.{Trouble}
 use Rattle.adlb_unit.specs.declared.notes.Trouble.TheVariants as troubles
 use Rattle.run_command.specs.Ends.{Asks, HasAsked}
-use Rattle.run_command.specs.inside.{IsTroubleOf, Stops, fault_by, fault_ran}
+use Rattle.run_command.specs.inside.{IsStopOf, IsTroubleOf, Stops, fault_by, fault_ran}
 use Rattle.run_command.specs.declared.faults.Fault.{Fault}
 use Rattle.run_command.specs.declared.faults.Fault.TheVariants.{Input, Read, Write, NoThread, Memory, TooLong, TooLarge}
 
@@ -47,11 +46,11 @@ module _ {A W : Type 0} (asks : List ℕ → A → Type 0) (refuses : List ℕ �
       trouble_stops (troubles.TooLong stamp) is = (is.0, told_long is.1)
 
       -- and so with threads
-      pub ran_stops : (met : RanFault) → IsFaultOf met → long asked → (met ≡ runs.NoThread → Rises refused refused') →
+      pub ran_stops : (met : RanFault) → IsStopOf (long asked) met → (met ≡ runs.NoThread → Rises refused refused') →
           Stops asks refuses long left left' reads reads' refused refused' (fault_ran met)
-      ran_stops runs.NoThread is so rises = (rises refl, told_asked)
-      ran_stops runs.Memory is so rises = tt
-      ran_stops (runs.TooLong stamp) is so rises = (is, told_long so)
+      ran_stops runs.NoThread is rises = (rises refl, told_asked)
+      ran_stops runs.Memory is rises = tt
+      ran_stops (runs.TooLong stamp) is rises = (is.0, told_long is.1)
 
 -- that memory failed is why an input has no answer
 pub memory_stops : {A W X : Type 0} (asks : List ℕ → A → Type 0) (refuses : List ℕ → ℕ → W → Type 0) (long : A → Type 0)

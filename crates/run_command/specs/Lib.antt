@@ -1,6 +1,6 @@
 pub use Rattle.adlb_threads.specs.Reports
+pub mod Begun
 pub mod Ends
-pub mod Heard
 pub mod inside
 pub mod Kept
 pub mod Reading

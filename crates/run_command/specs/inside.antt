@@ -55,6 +55,12 @@ abbrev pub IsTroubleOf : Type 0 → Trouble → Type 0
 IsTroubleOf long troubles.Memory = Unit {0}
 IsTroubleOf long (troubles.TooLong stamp) = (2 ^ 48 ≤ stamp) × long
 
+-- and why one with threads had none
+abbrev pub IsStopOf : Type 0 → RanFault → Type 0
+IsStopOf long runs.NoThread = Unit {0}
+IsStopOf long runs.Memory = Unit {0}
+IsStopOf long (runs.TooLong stamp) = (2 ^ 48 ≤ stamp) × long
+
 -- Which fault one of a run is.
 
 -- the fault of a trouble

@@ -1,7 +1,7 @@
 //! A command that runs a rank program over an input.
 
 ghost use Rattle.std.specs.Prelude.{◌≡◌, ◌≤◌, ◌<◌, ◌^◌, ℕ, [], List, Some, length, slice_get, vec_capacity, IfOk, OnOk, IfErr};
-ghost use Rattle.run_command.specs.Heard.{HasHeard};
+ghost use Rattle.run_command.specs.Begun.{HaveBegun};
 ghost use Rattle.run_command.specs.Kept.{HasRun, IsWorkedUp, Kept};
 ghost use Rattle.run_command.specs.Reading.{RefusesBy};
 
@@ -39,8 +39,8 @@ pub trait Command {
     // This is said of a run over what is asked, if this is kept of it.
     ghost tells: { Self → Self.Asked → Kept Self.Program.Outcome → List ℕ → Type 0 };
 
-    // What is asked may take this many calls of one rank.
-    ghost may_take: { Self → Self.Asked → ℕ → Type 0 };
+    // All ranks of a run over what is asked, of which there are this many, may begin this many calls together.
+    ghost may_take: { Self → Self.Asked → ℕ → ℕ → Type 0 };
 
     /// Reads what the bytes of an input of at most 2^24 bytes ask.
     fn read(&self, alloc: Global, bytes: &[u8]) -> Result<Self::Asked, ReadFault<Self::Why>>
@@ -75,7 +75,7 @@ pub trait Command {
         ensures told { IfOk result (λ text. tells self.now asked.now kept.now text.items) }
         ensures worked_up { IfOk result (λ text. IsWorkedUp kept.now.report) };
 
-    // It may take what a rank that is alone has heard of its program, whether its run has come to its end or not.
-    ghost takes: { (command : Self) (asked : Self.Asked) (heard : ℕ) →
-        HasHeard (are_programs command) Self.Program.so_far asked heard → may_take command asked heard };
+    // They may begin what they have begun of their programs, whether the run has come to its end or not.
+    ghost takes: { (command : Self) (asked : Self.Asked) (ranks many : ℕ) →
+        HaveBegun (are_programs command) Self.Program.so_far asked ranks many → may_take command asked ranks many };
 }

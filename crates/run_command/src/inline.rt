@@ -23,7 +23,7 @@ use std::alloc::Global;
 /// `EndsBy` says of each end what was written and kept and why it came, whatever a spawner of threads counts: none is used. Without a
 /// fault the whole text was written and flushed, and the kept ledger is a legal run. `Input`: a line is refused, and no read failed.
 /// `TooLarge`: the input has more than 2^24 bytes. `Read` and `Write`: the count of faults of the source or of the sink rose (or is
-/// at its last value). `TooLong`: a stamp would be past the last one, and what is asked may take 2^34 calls of the rank. `Memory`: an
+/// at its last value). `TooLong`: a stamp would be past the last one, and the rank may begin 2^34 calls over what is asked. `Memory`: an
 /// allocation failed; contracts never say when.
 pub fn run_inline<C, S, K>(
     alloc: Global,
@@ -44,7 +44,7 @@ where
     requires one_server { config.servers ≡ 1 }
     ensures ends { (refused started refused' started' : ℕ) →
         EndsBy (C.asks command.now) (C.refuses command.now) (IsKept (C.are_programs command.now) C.Program.follows) (C.tells command.now)
-        (λ asked. C.may_take command.now asked (2 ^ 34))
+        (λ asked. C.may_take command.now asked config.ranks (2 ^ 34))
         (scene (S.left input.old) (S.faults input.old) (K.taken output.old) (K.faults output.old) (K.all_flushed output.old) refused started)
         (scene (S.left input.new) (S.faults input.new) (K.taken output.new) (K.faults output.new) (K.all_flushed output.new) refused' started')
         result.fault result.kept }
@@ -79,7 +79,7 @@ where
     ensures config { IfOk result (λ a. a.kept.report.config ≡ config) }
     ensures end { OnOk result (IsAtEnd (S.left input.new)) }
     ensures stopped { (refused refused' : ℕ) → IfErr result (Stops (C.asks command.now) (C.refuses command.now)
-        (λ asked. C.may_take command.now asked (2 ^ 34)) (S.left input.old) (S.left input.new) (S.faults input.old) (S.faults input.new) refused refused') }
+        (λ asked. C.may_take command.now asked config.ranks (2 ^ 34)) (S.left input.old) (S.left input.new) (S.faults input.old) (S.faults input.new) refused refused') }
     ensures later { S.faults input.old ≤ S.faults input.new }
 {
     let asked = match read_input(alloc, command, input) {

@@ -19,7 +19,7 @@ use server_core::LeftUnit;
 use std::alloc::Global;
 
 /// Runs what is asked by the program of one rank over one server of its own, and finishes it. It fails if an allocation fails, or if a
-/// stamp would be past the last one, and then what is asked may take 2^34 calls of the rank.
+/// stamp would be past the last one, and then the rank may begin 2^34 calls over what is asked.
 pub(crate) fn run_in_line<C>(
     alloc: Global,
     command: &C,
@@ -34,7 +34,7 @@ where
     requires one_server { config.servers ≡ 1 }
     ensures run { IfOk result (λ k. HasRun (C.are_programs command.now) C.Program.follows asked.now k.report) }
     ensures config { IfOk result (λ k. k.report.config ≡ config) }
-    ensures faults { IfErr result (IsTroubleOf (C.may_take command.now asked.now (2 ^ 34))) }
+    ensures faults { IfErr result (IsTroubleOf (C.may_take command.now asked.now config.ranks (2 ^ 34))) }
 {
     let Ok(programs) = programs_of(alloc, command, config.ranks, asked) else {
         return Err(Trouble::Memory);

@@ -37,7 +37,7 @@ where
     G: Gate + Send + Drop + 'static,
     requires single { inline ≡ true → (config.ranks ≡ 1) × (config.servers ≡ 1) }
     ensures ends { EndsBy (C.asks command.now) (C.refuses command.now) (IsKept (C.are_programs command.now) C.Program.follows) (C.tells command.now)
-        (λ asked. inline ≡ true → C.may_take command.now asked (2 ^ 34))
+        (λ asked. C.may_take command.now asked config.ranks (2 ^ 34))
         (scene (S.left input.old) (S.faults input.old) (K.taken output.old) (K.faults output.old) (K.all_flushed output.old)
         (T.faults threads.old) (T.starts threads.old))
         (scene (S.left input.new) (S.faults input.new) (K.taken output.new) (K.faults output.new) (K.all_flushed output.new)

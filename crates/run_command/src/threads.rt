@@ -1,11 +1,10 @@
 //! A run with threads: each rank and each server in a thread of its own.
 
-ghost use Rattle.std.specs.Prelude.{◌≡◌, ◌≤◌, true, Err, IfOk, OnOk, IfErr, IfSome, IsSome};
+ghost use Rattle.std.specs.Prelude.{◌≡◌, ◌≤◌, ◌^◌, true, Err, IfOk, OnOk, IfErr, IfSome, IsSome};
 ghost use Rattle.adlb_io.specs.Inputs.{IsAtEnd};
 ghost use Rattle.adlb_io.specs.Outside.{Rises};
-ghost use Rattle.adlb_threads.specs.Runs.{IsFaultOf};
 ghost use Rattle.run_command.specs.Ends.{EndsBy, IsAnswered, scene};
-ghost use Rattle.run_command.specs.inside.{HasStarted, Stops};
+ghost use Rattle.run_command.specs.inside.{HasStarted, IsStopOf, Stops};
 ghost use Rattle.run_command.specs.Kept.{HasRun, IsKept};
 
 use crate::answers::{Answer, answer_of};
@@ -25,8 +24,8 @@ use std::alloc::Global;
 /// writes what is told. It waits for its threads.
 ///
 /// `EndsBy` says of each end what was written and kept and why it came, as of a run in line, and one end besides. `NoThread`: the
-/// spawner's count of faults rose (or is at its last value). Of `TooLong` it says no more than that a stamp would be past the last
-/// one. What is kept is of a run in threads, which is one run of all actors (`Kept::one_run`).
+/// spawner's count of faults rose (or is at its last value). `TooLong`: a stamp would be past the last one, and all ranks together
+/// may begin 2^34 calls over what is asked. What is kept is of a run in threads, which is one run of all actors (`Kept::one_run`).
 pub fn run_threads<C, S, K, T, G>(
     alloc: Global,
     command: &C,
@@ -46,7 +45,8 @@ where
     K: Sink,
     T: Spawner,
     G: Gate + Send + Drop + 'static,
-    ensures ends { EndsBy (C.asks command.now) (C.refuses command.now) (IsKept (C.are_programs command.now) C.Program.follows) (C.tells command.now) (λ asked. Unit {0})
+    ensures ends { EndsBy (C.asks command.now) (C.refuses command.now) (IsKept (C.are_programs command.now) C.Program.follows) (C.tells command.now)
+        (λ asked. C.may_take command.now asked config.ranks (2 ^ 34))
         (scene (S.left input.old) (S.faults input.old) (K.taken output.old) (K.faults output.old) (K.all_flushed output.old)
         (T.faults threads.old) (T.starts threads.old))
         (scene (S.left input.new) (S.faults input.new) (K.taken output.new) (K.faults output.new) (K.all_flushed output.new)
@@ -88,8 +88,8 @@ where
     ensures config { IfOk result (λ a. a.kept.report.config ≡ config) }
     ensures threaded { IfOk result (λ a. a.kept.threaded ≡ true) }
     ensures end { OnOk result (IsAtEnd (S.left input.new)) }
-    ensures stopped { IfErr result (Stops (C.asks command.now) (C.refuses command.now) (λ asked. Unit {0})
-        (S.left input.old) (S.left input.new) (S.faults input.old) (S.faults input.new) (T.faults threads.old) (T.faults threads.new)) }
+    ensures stopped { IfErr result (Stops (C.asks command.now) (C.refuses command.now)
+        (λ asked. C.may_take command.now asked config.ranks (2 ^ 34)) (S.left input.old) (S.left input.new) (S.faults input.old) (S.faults input.new) (T.faults threads.old) (T.faults threads.new)) }
     ensures started { OnOk result (HasStarted config (T.starts threads.old) (T.starts threads.new)) }
     ensures source { S.faults input.old ≤ S.faults input.new }
     ensures later { T.faults threads.old ≤ T.faults threads.new }
@@ -123,7 +123,7 @@ where
     ensures run { IfOk result (λ k. HasRun (C.are_programs command.now) C.Program.follows asked.now k.report) }
     ensures config { IfOk result (λ k. k.report.config ≡ config) }
     ensures threaded { IfOk result (λ k. k.threaded ≡ true) }
-    ensures faults { IfErr result IsFaultOf }
+    ensures faults { IfErr result (IsStopOf (C.may_take command.now asked.now config.ranks (2 ^ 34))) }
     ensures no_thread { result ≡ Err RanFault.NoThread → Rises (T.faults threads.old) (T.faults threads.new) }
     ensures started { OnOk result (HasStarted config (T.starts threads.old) (T.starts threads.new)) }
     ensures later { T.faults threads.old ≤ T.faults threads.new }

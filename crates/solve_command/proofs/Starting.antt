@@ -1,5 +1,5 @@
 -- The ends of a run for which an allocation failed before anything was done.
-use Rattle.std.proofs.Common.{◌≡◌, ◌≤◌, ◌^◌, ℕ, Bool, true, List, Some, None}
+use Rattle.std.proofs.Common.{◌≡◌, ◌≤◌, ◌^◌, ℕ, Bool, List, Some, None}
 use Rattle.run_command.specs.Reports.{Reported}
 use Rattle.adlb_unit.specs.declared.configs.Config.{Config}
 use Rattle.job_report.specs.declared.outcomes.Outcome.{Outcome}
@@ -14,29 +14,29 @@ use Rattle.solve_command.specs.Puzzles.{AreJobs, ArePrograms, FollowsPuzzles, Re
 use Rattle.solve_command.specs.Told.{IsReported, IsSummed}
 use Rattle.spending_law.specs.Most.{most_calls}
 
-module _ (settings : Settings) (IsOf : Config → Type 0) (inline : Bool) (before after : Scene) (same : after.taken ≡ before.taken)
-    (none : StartsNone before after)
+module _ (settings : Settings) (ranks : ℕ) (IsOf : Config → Type 0) (inline : Bool) (before after : Scene)
+    (same : after.taken ≡ before.taken) (none : StartsNone before after)
   where
     none_run : IsRunWith {O = Outcome} IsOf inline before after None
     none_run = record { numbers = tt; threaded = λ e. tt; untouched = λ e. none }
 
     -- a `solve` that fails before its run ends as memory that ran out
-    pub solved_early : (tail : Reported Outcome → List ℕ) → Solves settings tail IsOf inline before after (Some Memory) None
+    pub solved_early : (tail : Reported Outcome → List ℕ) → Solves settings tail ranks IsOf inline before after (Some Memory) None
     solved_early tail = record {
-      ends = ends_early AreJobs RefusesLine (IsKept (λ ranks. ArePrograms settings) FollowsPuzzles)
+      ends = ends_early AreJobs RefusesLine (IsKept (λ n. ArePrograms settings) FollowsPuzzles)
           (λ jobs k told. IsReported settings tail jobs k.report told)
-          (λ jobs. inline ≡ true → 2 ^ 34 ≤ most_calls settings.budget settings.grain 1 jobs) before after Memory tt same;
+          (λ jobs. 2 ^ 34 ≤ most_calls settings.budget settings.grain ranks jobs) before after Memory tt same;
       run = none_run;
     }
 
     -- a `drill` that fails before its run ends as memory that ran out
     pub drilled_early : (count seed : ℕ) → ReadsNothing before after
-        → Drills count seed settings IsOf inline before after (Some Memory) None
+        → Drills count seed settings ranks IsOf inline before after (Some Memory) None
     drilled_early count seed unread = record {
       rest = made_text count seed;
-      ends = ends_early AreJobs RefusesLine (IsKept (λ ranks. ArePrograms settings) FollowsPuzzles)
+      ends = ends_early AreJobs RefusesLine (IsKept (λ n. ArePrograms settings) FollowsPuzzles)
           (λ jobs k told. IsSummed settings count seed jobs k.report told)
-          (λ jobs. inline ≡ true → 2 ^ 34 ≤ most_calls settings.budget settings.grain 1 jobs)
+          (λ jobs. 2 ^ 34 ≤ most_calls settings.budget settings.grain ranks jobs)
           (scene (Some (made_text count seed)) 0 before.taken before.writes before.flushed before.refused before.started)
           (scene (Some (made_text count seed)) 0 after.taken after.writes after.flushed after.refused after.started) Memory tt same;
       run = none_run;

@@ -30,7 +30,7 @@ pub fn drill<K: Sink, T: Spawner, G: Gate + Send + Drop + 'static>(
     gate: G,
 ) -> Ended<LineWhy, Outcome>
     requires single { inline ≡ true → (config.ranks ≡ 1) × (config.servers ≡ 1) }
-    ensures drills { (left : Option (List ℕ)) (reads : ℕ) → Drills count seed settings (λ c. c ≡ config) inline
+    ensures drills { (left : Option (List ℕ)) (reads : ℕ) → Drills count seed settings config.ranks (λ c. c ≡ config) inline
         (scene left reads (K.taken output.old) (K.faults output.old) (K.all_flushed output.old) (T.faults threads.old) (T.starts threads.old))
         (scene left reads (K.taken output.new) (K.faults output.new) (K.all_flushed output.new) (T.faults threads.new) (T.starts threads.new))
         result.fault result.kept }

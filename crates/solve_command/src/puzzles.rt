@@ -1,12 +1,15 @@
 //! Runs over puzzles and batches, as a command.
 
 ghost use Rattle.std.specs.Prelude.{◌≡◌, ◌≤◌, ◌<◌, ◌^◌, [], IfOk, OnOk, IfErr, length, vec_capacity};
-ghost use Rattle.puzzle_app.proofs.UnderWay.{way_so};
+ghost use Rattle.bag_ledger.specs.Runs.{calls};
+ghost use Rattle.cover_law.specs.Begun.{pending_of};
+ghost use Rattle.run_command.proofs.Hearing.{come_by};
 ghost use Rattle.run_command.specs.Reading.{RefusesBy};
 ghost use Rattle.solve_command.specs.Puzzles.{AreJobs, ArePrograms, RefusesLine};
 ghost use Rattle.solve_command.specs.Told.{IsTold};
-ghost use Rattle.spending_law.proofs.Heard.{heard_most};
+ghost use Rattle.spending_law.proofs.Together.{at_end, at_work, begun_most};
 ghost use Rattle.spending_law.specs.Most.{most_calls};
+ghost use Rattle.spending_law.specs.UnderWay.{HasCome, hears};
 
 use crate::extras::Tail;
 use crate::telling::tell_run;
@@ -72,7 +75,7 @@ impl<E: Tail + Copy> Command for Puzzles<E> {
 
     ghost tells = { λ puzzles jobs kept told. IsTold E.tail puzzles.settings puzzles.wanted jobs kept.report told };
 
-    ghost may_take = { λ puzzles jobs many. many ≤ most_calls puzzles.settings.budget puzzles.settings.grain 1 jobs };
+    ghost may_take = { λ puzzles jobs ranks many. many ≤ most_calls puzzles.settings.budget puzzles.settings.grain ranks jobs };
 
     fn read(&self, alloc: Global, bytes: &[u8]) -> Result<PuzzleJobs, ReadFault<LineWhy>> {
         read_puzzles(alloc, bytes)
@@ -97,10 +100,19 @@ impl<E: Tail + Copy> Command for Puzzles<E> {
         tell_run(alloc, self.settings, self.wanted, asked, kept)
     }
 
-    ghost takes = { λ puzzles jobs many h.
-        let is = h.are 0 h.program h.program_is in
-        heard_most h.config h.ledger h.last h.program jobs h.said h.more h.legal h.one_rank is.1
-        (way_so h.program h.said h.begun h.so) h.calls_are puzzles.settings is.0 many h.enough };
+    ghost takes = { λ puzzles jobs ranks many h.
+        begun_most h.config h.ledger h.last puzzles.settings jobs ranks many h.ranks_are h.legal
+        (λ rank below.
+        let e = h.each rank below in
+        let is = h.are rank.0 e.0 e.1 in
+        let told = calls h.config h.ledger rank in
+        let pending = pending_of h.last rank in
+        record {
+          program = e.0;
+          settings_are = is.0;
+          jobs_are = is.1;
+          stands = come_by (HasCome e.0 told pending) (at_work e.0 told pending) hears (at_end e.0 told pending) e.2;
+        }) h.enough };
 }
 
 // The jobs of an input of these bytes.

@@ -36,7 +36,7 @@ where
     T: Spawner,
     G: Gate + Send + Drop + 'static,
     requires single { inline ≡ true → (config.ranks ≡ 1) × (config.servers ≡ 1) }
-    ensures solves { Solves settings (E.tail tail) (λ c. c ≡ config) inline
+    ensures solves { Solves settings (E.tail tail) config.ranks (λ c. c ≡ config) inline
         (scene (S.left input.old) (S.faults input.old) (K.taken output.old) (K.faults output.old) (K.all_flushed output.old)
         (T.faults threads.old) (T.starts threads.old))
         (scene (S.left input.new) (S.faults input.new) (K.taken output.new) (K.faults output.new) (K.all_flushed output.new)

@@ -1,5 +1,5 @@
 -- How many calls of its program one rank has heard in a run of its own, whatever the run told beyond them.
-use Rattle.std.proofs.Common.{◌≡◌, ◌≤◌, ◌++◌, ℕ, List, length, Some, ap, arith, refl, subst, sym}
+use Rattle.std.proofs.Common.{◌≡◌, ◌≤◌, ◌++◌, List, length, Some, ap, arith, refl, subst, sym}
 use Rattle.adlb_unit.specs.declared.configs.Config.{Config}
 use Rattle.bag_ledger.specs.declared.entries.Entry.{Entry}
 use Rattle.bag_ledger.specs.declared.entries.Said.{Said}
@@ -11,7 +11,6 @@ use Rattle.cover_law.proofs.Begun.{only, zeroth}
 use Rattle.cover_law.proofs.Fronts.{front_at}
 use Rattle.job_text.specs.declared.jobs.Job.{Job}
 use Rattle.puzzle_app.specs.Follows.{IsSoFar}
-use Rattle.puzzle_app.specs.declared.outcomes.Settings.{Settings}
 use Rattle.puzzle_app.specs.declared.program.PuzzleProgram.{PuzzleProgram}
 use Rattle.spending_law.specs.Most.{most_calls}
 use Rattle.spending_law.specs.UnderWay.{AreUnderWay, IsRankUnderWay, works}
@@ -36,9 +35,3 @@ module _ (config : Config) (ledger : List Entry) (last : Bag) (program : PuzzleP
         let few = few_calls config f.front f.middle program.settings jobs f.run under_way in
         let all = ap (λ n. over_ranks n (begun_by config f.front f.middle)) one in
         omega (arith, few, all, one, ap length f.calls_are)
-
-    -- a number of them, by the settings of the program
-    pub heard_most : (settings : Settings) → program.settings ≡ settings → (many : ℕ) → many ≤ length said
-        → many ≤ most_calls settings.budget settings.grain 1 jobs
-    heard_most settings same many enough =
-        subst (λ (s : Settings). many ≤ most_calls s.budget s.grain 1 jobs) same (omega (arith, heard_few, enough))

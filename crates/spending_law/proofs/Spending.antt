@@ -83,7 +83,7 @@ keeps grain = record {
 
 -- each unit weighs at least its put, a reserve, a fetch, and all that is made of it
 module _ (grain : ℕ) (v : Arrival → ℕ) (each : (a : Arrival) → 3 + sum_by v (pieces (makes grain a)) ≤ v a) where
-  made : Arrival → ℕ
+  unfoldable pub made : Arrival → ℕ
   made a = sum_by v (pieces (makes grain a))
 
   -- what is read of a parcel
@@ -126,7 +126,7 @@ module _ (grain : ℕ) (v : Arrival → ℕ) (each : (a : Arrival) → 3 + sum_b
       ap (worth_read (bytes_on on)) (put_back unit kind prio target answer body (bytes_on on) long fits put refl) in
       omega (arith, sum_by-cons worth parcel [], together, common, back)
 
-  put_worth : (unit : Made) (on : Option (List ℕ)) → IsUnit unit →
+  pub put_worth : (unit : Made) (on : Option (List ℕ)) → IsUnit unit →
       sum_by worth (parcel_sent on (put_of unit) answers.Fine) ≡ 2 + made (arrival (bytes_on on) unit)
   put_worth unit on fits =
       of_put (λ call. put_of unit ≡ call → sum_by worth (parcel_sent on call answers.Fine) ≡ 2 + made (arrival (bytes_on on) unit))
@@ -146,7 +146,7 @@ module _ (grain : ℕ) (v : Arrival → ℕ) (each : (a : Arrival) → 3 + sum_b
       of_put (λ call. sum_by worth (parcel_sent on call (answers.Ended end)) ≡ 0) (λ kind prio target rank body. refl) unit
 
   -- a unit that waits is put
-  put_weighs : (on : Option (List ℕ)) (unit : Made) (rest : List Task)
+  pub put_weighs : (on : Option (List ℕ)) (unit : Made) (rest : List Task)
       → sum_by v (waits on (Put unit ∷ rest)) ≡ v (arrival (bytes_on on) unit) + sum_by v (waits on rest)
   unfolding waits
   put_weighs on unit rest = sum_by-cons v (arrival (bytes_on on) unit) (waits on rest)

@@ -1,5 +1,5 @@
 -- A run of puzzle programs that may go on.
-use Rattle.std.specs.Prelude.{◌≡◌, ◌<◌, Bool, true, List, [], ◌∷◌, ◌++◌, Option, None}
+use Rattle.std.specs.Prelude.{◌≡◌, ◌<◌, Bool, true, List, [], ◌∷◌, ◌++◌, Option, Some, None}
 use Rattle.adlb_unit.specs.declared.configs.Config.{Config}
 use Rattle.adlb_unit.specs.declared.names.Rank.{Rank}
 use Rattle.bag_ledger.specs.declared.entries.Call.{Call}
@@ -10,7 +10,7 @@ use Rattle.bag_ledger.specs.Bag.{Bag}
 use Rattle.bag_ledger.specs.Runs.{calls}
 use Rattle.cover_law.specs.Begun.{pending_of}
 use Rattle.job_text.specs.declared.jobs.Job.{Job}
-use Rattle.puzzle_app.specs.Follows.{IsSoFar}
+use Rattle.puzzle_app.specs.Follows.{IsSoFar, IsUnderWay}
 use Rattle.puzzle_app.specs.declared.outcomes.Settings.{Settings}
 use Rattle.puzzle_app.specs.declared.program.PuzzleProgram.{PuzzleProgram}
 use Rattle.puzzle_law.specs.Joined.{jobs_of}
@@ -26,6 +26,9 @@ pub data IsLeaving (on : Bool) (late : List Said) : Type 0 where
 pub data HasCome (program : PuzzleProgram) (said : List Said) (pending : Option Call) : Type 0 where
   -- the calls are those of the program so far, whatever is pending
   works : IsSoFar program said → HasCome program said pending
+  -- the run has the answer of the call that was begun after those of the program, and the rank has not heard it
+  hears : (own : List Said) (s : Said) → IsUnderWay program own (Some s.call) → said ≡ own ++ s ∷ [] → pending ≡ None →
+      HasCome program said pending
   -- after those of the program the rank leaves, and nothing is pending
   leaves : (own late : List Said) → IsSoFar program own → IsLeaving (is_open own) late → said ≡ own ++ late →
       pending ≡ None → HasCome program said pending

@@ -31,7 +31,7 @@ impl Command for Tours {
 
     ghost tells = { λ tours cities kept told. TellsLeast cities told };
 
-    ghost may_take = { λ tours cities many. Unit {0} };
+    ghost may_take = { λ tours cities ranks many. Unit {0} };
 
     fn read(&self, alloc: Global, bytes: &[u8]) -> Result<Cities, ReadFault<CitiesWhy>> {
         read_tours(alloc, bytes)
@@ -56,7 +56,7 @@ impl Command for Tours {
         tell_run(alloc, asked, kept)
     }
 
-    ghost takes = { λ tours cities many heard. tt };
+    ghost takes = { λ tours cities ranks many begun. tt };
 }
 
 // The cities of an input of these bytes.

@@ -2,12 +2,12 @@ use Rattle.std.proofs.Common.{◌+◌, None, Some}
 use Rattle.flow_command.proofs.Ended as flows
 use Rattle.run_command.specs.Ends.{input_limit}
 use Rattle.run_command.specs.declared.faults.Fault.TheVariants as runs
-use Rattle.solve_command.proofs.Drilled.{drilled_fine, drilled_in_line}
-use Rattle.solve_command.proofs.Ended.{accepted_fine, overlong_told, refused_at_line, short_in_line}
+use Rattle.solve_command.proofs.Drilled.{drilled_fine, drilled_short}
+use Rattle.solve_command.proofs.Ended.{accepted_fine, overlong_told, refused_at_line, short_fine}
 use Rattle.solve_command.specs.Told.{IsReported, behind}
 use Rattle.tour_command.proofs.Ended as cities
 use Rattle.adlb_command.specs.Ends.{why_of, why_of_cities, why_of_flow}
-use Rattle.adlb_command.specs.Words.{IsConfigOf, extras_of, settings_of}
+use Rattle.adlb_command.specs.Words.{IsConfigOf, extras_of, ranks_of, settings_of}
 use Rattle.adlb_command.proofs.Checked.{bad_checked, long_checked, text_checked}
 use Rattle.adlb_command.proofs.Drawn.{bad_drawn, long_drawn, text_drawn}
 use Rattle.adlb_command.proofs.Flowed.{kept_flow}
@@ -25,21 +25,21 @@ returns-clause-unsaid c = λ before after fault kept ends. ends.cause
 pub returns-clause-complete : goal.returns-clause-complete
 returns-clause-complete c = λ words before after fault kept bytes ends told no_read short fine no_write no_refusal.
     fine_told why_of fault ends.met ends.fault_is
-    (accepted_fine (settings_of words.options) words.options.inline
+    (accepted_fine (settings_of words.options) (ranks_of words.options.sizes words.options.inline)
     (IsReported (settings_of words.options) (behind (extras_of words))) before after ends.met ends.own bytes ends.ended.ends told no_read
     short fine no_write no_refusal)
 
 pub returns-clause-refused : goal.returns-clause-refused
 returns-clause-refused c = λ words before after fault kept bytes ends told no_read line why short is.
     either_told why_of fault ends.met ends.fault_is (Some (runs.Input line why)) (Some runs.Memory)
-    (refused_at_line (settings_of words.options) words.options.inline
+    (refused_at_line (settings_of words.options) (ranks_of words.options.sizes words.options.inline)
     (IsReported (settings_of words.options) (behind (extras_of words))) before after ends.met ends.own bytes ends.ended.ends told no_read
     line why short is)
 
 pub returns-clause-overlong : goal.returns-clause-overlong
 returns-clause-overlong c = λ words before after fault kept bytes ends told no_read long.
     either_told why_of fault ends.met ends.fault_is (Some (runs.TooLarge (input_limit + 1))) (Some runs.Memory)
-    (overlong_told (settings_of words.options) words.options.inline
+    (overlong_told (settings_of words.options) (ranks_of words.options.sizes words.options.inline)
     (IsReported (settings_of words.options) (behind (extras_of words))) before after ends.met ends.own bytes ends.ended.ends
     told no_read long)
 
@@ -70,21 +70,21 @@ returns-clause-tour_told c = λ words told before after fault kept ends. ends
 pub returns-clause-flow_complete : goal.returns-clause-flow_complete
 returns-clause-flow_complete c = λ words before after fault kept bytes ends told no_read short is no_write no_refusal.
     fine_told why_of_flow fault ends.met ends.fault_is
-    (flows.accepted_fine before after ends.met ends.own bytes ends.ended.ends told no_read short is no_write no_refusal)
+    (flows.accepted_fine words.sizes.ranks before after ends.met ends.own bytes ends.ended.ends told no_read short is no_write no_refusal)
 
 pub returns-clause-flow_refused : goal.returns-clause-flow_refused
 returns-clause-flow_refused c = λ words before after fault kept bytes ends told no_read line why short is.
     either_told why_of_flow fault ends.met ends.fault_is (Some (runs.Input line why)) (Some runs.Memory)
-    (flows.refused_at_line before after ends.met ends.own bytes ends.ended.ends told no_read line why short is)
+    (flows.refused_at_line words.sizes.ranks before after ends.met ends.own bytes ends.ended.ends told no_read line why short is)
 
 pub returns-clause-flow_overlong : goal.returns-clause-flow_overlong
 returns-clause-flow_overlong c = λ words before after fault kept bytes ends told no_read long.
     either_told why_of_flow fault ends.met ends.fault_is (Some (runs.TooLarge (input_limit + 1))) (Some runs.Memory)
-    (flows.overlong_told before after ends.met ends.own bytes ends.ended.ends told no_read long)
+    (flows.overlong_told words.sizes.ranks before after ends.met ends.own bytes ends.ended.ends told no_read long)
 
 pub returns-clause-flow_kept : goal.returns-clause-flow_kept
 returns-clause-flow_kept c = λ words before after fault k bytes ends told.
-    kept_flow before after k bytes told ends.met ends.own ends.kept_is ends.ended.ends
+    kept_flow words.sizes.ranks before after k bytes told ends.met ends.own ends.kept_is ends.ended.ends
 
 pub returns-clause-flow_told : goal.returns-clause-flow_told
 returns-clause-flow_told c = λ words told before after fault kept ends. ends
@@ -123,18 +123,25 @@ returns-clause-made c = λ count seed before after fault kept ends no_write. mad
 pub returns-clause-drilled : goal.returns-clause-drilled
 returns-clause-drilled c = λ count seed options before after fault kept ends few no_write no_refusal.
     fine_told why_of fault ends.met ends.fault_is
-    (drilled_fine count seed (settings_of options) (IsConfigOf options.sizes options.inline) options.inline before after ends.met ends.own
-    ends.ended (c.made_laws.ensures.short count seed few)
+    (drilled_fine count seed (settings_of options) (ranks_of options.sizes options.inline) (IsConfigOf options.sizes options.inline)
+    options.inline before after ends.met ends.own ends.ended (c.made_laws.ensures.short count seed few)
     (c.made_is_accepted.ensures.accepted count seed) no_write no_refusal)
 
-pub returns-clause-in_line : goal.returns-clause-in_line
-returns-clause-in_line c = λ words before after fault kept bytes ends told on few fine.
+pub returns-clause-short : goal.returns-clause-short
+returns-clause-short c = λ words before after fault kept bytes ends told few fine.
     either_told why_of fault ends.met ends.fault_is None (Some runs.Memory)
-    (short_in_line (settings_of words.options) words.options.inline (IsReported (settings_of words.options) (behind (extras_of words)))
-    before after ends.met ends.own bytes ends.ended.ends told on few (fine_met why_of fault ends.met ends.fault_is fine))
+    (short_fine (settings_of words.options) (ranks_of words.options.sizes words.options.inline)
+    (IsReported (settings_of words.options) (behind (extras_of words))) before after ends.met ends.own bytes ends.ended.ends told few
+    (fine_met why_of fault ends.met ends.fault_is fine))
 
-pub returns-clause-drilled_in_line : goal.returns-clause-drilled_in_line
-returns-clause-drilled_in_line c = λ count seed options before after fault kept ends on few fine.
+pub returns-clause-drilled_short : goal.returns-clause-drilled_short
+returns-clause-drilled_short c = λ count seed options before after fault kept ends few fine.
     either_told why_of fault ends.met ends.fault_is None (Some runs.Memory)
-    (drilled_in_line count seed (settings_of options) (IsConfigOf options.sizes options.inline) options.inline before after ends.met
-    ends.own ends.ended on few (fine_met why_of fault ends.met ends.fault_is fine))
+    (drilled_short count seed (settings_of options) (ranks_of options.sizes options.inline) (IsConfigOf options.sizes options.inline)
+    options.inline before after ends.met ends.own ends.ended few (fine_met why_of fault ends.met ends.fault_is fine))
+
+pub returns-clause-flow_short : goal.returns-clause-flow_short
+returns-clause-flow_short c = λ words before after fault kept bytes ends told few fine.
+    either_told why_of_flow fault ends.met ends.fault_is None (Some runs.Memory)
+    (flows.short_fine words.sizes.ranks before after ends.met ends.own bytes ends.ended.ends told few
+    (fine_met why_of_flow fault ends.met ends.fault_is fine))

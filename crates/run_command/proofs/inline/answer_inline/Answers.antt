@@ -8,20 +8,22 @@ pub returns-in-Err-clause-stopped : goal.returns-in-Err-clause-stopped
 returns-in-Err-clause-stopped g c = λ refused refused'.
     stops_wider (g.C.Command.asks c.args.command.now) (g.C.Command.refuses c.args.command.now) (g.S.Source.left c.args.input.now)
     (g.S.Source.left c.read_input.new.input) (g.S.Source.faults c.args.input.now) (g.S.Source.faults c.read_input.new.input)
-    refused refused' (λ asked. ⊥) (λ asked. g.C.Command.may_take c.args.command.now asked (2 ^ 34)) (λ asked none. absurd none)
+    refused refused' (λ asked. ⊥) (λ asked. g.C.Command.may_take c.args.command.now asked c.args.config.ranks (2 ^ 34))
+    (λ asked none. absurd none)
     c.in-Err.fault (c.in-Err.ensures.stopped refused refused')
 
 pub returns-in-Err-run_in_line-clause-stopped : goal.returns-in-Err-run_in_line-clause-stopped
 returns-in-Err-run_in_line-clause-stopped g c = λ refused refused'.
     subst
     (λ f. Stops (g.C.Command.asks c.args.command.now) (g.C.Command.refuses c.args.command.now)
-    (λ asked. g.C.Command.may_take c.args.command.now asked (2 ^ 34)) (g.S.Source.left c.args.input.now)
+    (λ asked. g.C.Command.may_take c.args.command.now asked c.args.config.ranks (2 ^ 34)) (g.S.Source.left c.args.input.now)
     (g.S.Source.left c.read_input.new.input) (g.S.Source.faults c.args.input.now) (g.S.Source.faults c.read_input.new.input)
     refused refused' f)
     (sym c.by.ensures)
     (trouble_stops (g.C.Command.asks c.args.command.now) (g.C.Command.refuses c.args.command.now) (g.S.Source.left c.args.input.now)
     (g.S.Source.left c.read_input.new.input) (g.S.Source.faults c.args.input.now) (g.S.Source.faults c.read_input.new.input)
-    refused refused' (λ asked. g.C.Command.may_take c.args.command.now asked (2 ^ 34)) c.in-Ok.asked c.in-Ok.ensures.asked
+    refused refused' (λ asked. g.C.Command.may_take c.args.command.now asked c.args.config.ranks (2 ^ 34)) c.in-Ok.asked
+    c.in-Ok.ensures.asked
     c.in-Err-run_in_line.trouble c.in-Err-run_in_line.ensures.faults)
 
 pub returns-clause-answered : goal.returns-clause-answered
@@ -32,6 +34,6 @@ returns-clause-answered g c =
 pub returns-clause-stopped : goal.returns-clause-stopped
 returns-clause-stopped g c = λ refused refused'.
     memory_stops (g.C.Command.asks c.args.command.now) (g.C.Command.refuses c.args.command.now)
-    (λ asked. g.C.Command.may_take c.args.command.now asked (2 ^ 34)) (g.S.Source.left c.args.input.now)
+    (λ asked. g.C.Command.may_take c.args.command.now asked c.args.config.ranks (2 ^ 34)) (g.S.Source.left c.args.input.now)
     (g.S.Source.left c.read_input.new.input) (g.S.Source.faults c.args.input.now) (g.S.Source.faults c.read_input.new.input)
     refused refused' c.answer_of.result c.answer_of.ensures.fault

@@ -8,7 +8,7 @@ pub returns-in-Ok-clause-ends : goal.returns-in-Ok-clause-ends
 returns-in-Ok-clause-ends g c = λ refused started refused' started'.
     ends_answered (g.C.Command.asks c.args.command.now) (g.C.Command.refuses c.args.command.now)
     (IsKept (g.C.Command.are_programs c.args.command.now) g.C.Program.RankProgram.follows) (g.C.Command.tells c.args.command.now)
-    (λ asked. g.C.Command.may_take c.args.command.now asked (2 ^ 34))
+    (λ asked. g.C.Command.may_take c.args.command.now asked c.args.config.ranks (2 ^ 34))
     (scene (g.S.Source.left c.args.input.now) (g.S.Source.faults c.args.input.now) (g.K.Sink.taken c.args.output.now)
     (g.K.Sink.faults c.args.output.now) (g.K.Sink.all_flushed c.args.output.now) refused started)
     (scene (g.S.Source.left c.answer_inline.new.input) (g.S.Source.faults c.answer_inline.new.input)
@@ -20,7 +20,7 @@ pub returns-in-Err-clause-ends : goal.returns-in-Err-clause-ends
 returns-in-Err-clause-ends g c = λ refused started refused' started'.
     ends_as_stopped (g.C.Command.asks c.args.command.now) (g.C.Command.refuses c.args.command.now)
     (IsKept (g.C.Command.are_programs c.args.command.now) g.C.Program.RankProgram.follows) (g.C.Command.tells c.args.command.now)
-    (λ asked. g.C.Command.may_take c.args.command.now asked (2 ^ 34))
+    (λ asked. g.C.Command.may_take c.args.command.now asked c.args.config.ranks (2 ^ 34))
     (scene (g.S.Source.left c.args.input.now) (g.S.Source.faults c.args.input.now) (g.K.Sink.taken c.args.output.now)
     (g.K.Sink.faults c.args.output.now) (g.K.Sink.all_flushed c.args.output.now) refused started)
     (scene (g.S.Source.left c.answer_inline.new.input) (g.S.Source.faults c.answer_inline.new.input) (g.K.Sink.taken c.args.output.now)

@@ -1,7 +1,7 @@
 use Rattle.std.proofs.Common.{◌∙◌, refl, sym, subst}
 use Rattle.std.proofs.lemmas.Result.{IfErr-weaker, err_from_is_err_and}
 use Rattle.core_inline.proofs.Batches.{start_closed}
-use Rattle.run_command.proofs.Hearing.{has_heard, memory_alone, memory_is, one_plus, trouble_wider}
+use Rattle.run_command.proofs.Hearing.{has_begun, memory_alone, memory_is, one_plus, trouble_wider}
 use Rattle.run_command.proofs.Keeping.{finishes, first_at, numbers_of, reports_run}
 use Rattle.run_command.proofs.programs.run_in_line.Goals as goal
 
@@ -35,9 +35,9 @@ returns-in_err-parts-clause-faults g c =
     let p = err_from_is_err_and c.from_residual.result c.from_residual.ensures.1 in
     rw (p.1, p.2)
     (trouble_wider _ _ _
-    (λ enough. g.met.C.Command.takes c.args.command.now asked _
-    (has_heard are g.C.Program.RankProgram.so_far asked c.in-Ok.programs.items c.index.result.now
-    (subst (λ n. are n asked c.in-Ok.programs.items) c.requires.one_rank c.in-Ok.ensures.programs)
+    (λ enough. g.met.C.Command.takes c.args.command.now asked c.args.config.ranks _
+    (has_begun are g.C.Program.RankProgram.so_far asked c.in-Ok.programs.items c.index.result.now c.args.config.ranks
+    c.requires.one_rank c.in-Ok.ensures.programs
     (first_at c.in-Ok.programs.items c.index.result.now (c.in-Ok.ensures.all ∙ c.requires.one_rank) c.index.ensures)
     c.work-outcome.new.world.run.transcript c.work-outcome.ensures.heard c.finish_inline.new.self.run
     (one_plus _ _ _ _ c.finish_inline.ensures.says) c.finish_inline.ensures.holds enough))

@@ -1,25 +1,12 @@
-use Rattle.std.proofs.Common.{◌≡◌, ◌^◌, true, refl}
+use Rattle.std.proofs.Common.{refl}
 use Rattle.run_command.specs.Ends.{scene}
-use Rattle.run_command.specs.Kept.{IsKept}
-use Rattle.run_command.proofs.Ending.{ends_wider}
 use Rattle.run_command.proofs.Running.{ran_inline, ran_threads}
 use Rattle.run_command.proofs.runs.run.Goals as goal
 
 pub returns-then-inline-clause-ends : goal.returns-then-inline-clause-ends
 returns-then-inline-clause-ends g c =
-    ends_wider (g.C.Command.asks c.args.command.now) (g.C.Command.refuses c.args.command.now)
-    (IsKept (g.C.Command.are_programs c.args.command.now) g.C.Program.RankProgram.follows) (g.C.Command.tells c.args.command.now)
-    (λ asked. g.C.Command.may_take c.args.command.now asked (2 ^ 34))
-    (λ asked. c.args.inline ≡ true → g.C.Command.may_take c.args.command.now asked (2 ^ 34)) (λ asked is on. is) _ _ _ _
-    (c.run_inline.ensures.ends (g.T.Spawner.faults c.args.threads.now) (g.T.Spawner.starts c.args.threads.now)
-    (g.T.Spawner.faults c.args.threads.now) (g.T.Spawner.starts c.args.threads.now))
-
-pub returns-else-inline-clause-ends : goal.returns-else-inline-clause-ends
-returns-else-inline-clause-ends g c =
-    ends_wider (g.C.Command.asks c.args.command.now) (g.C.Command.refuses c.args.command.now)
-    (IsKept (g.C.Command.are_programs c.args.command.now) g.C.Program.RankProgram.follows) (g.C.Command.tells c.args.command.now)
-    (λ asked. Unit {0}) (λ asked. c.args.inline ≡ true → g.C.Command.may_take c.args.command.now asked (2 ^ 34))
-    (λ asked is on. let off = c.if-inline.false in absurd (cc)) _ _ _ _ c.run_threads.ensures.ends
+    c.run_inline.ensures.ends (g.T.Spawner.faults c.args.threads.now) (g.T.Spawner.starts c.args.threads.now)
+    (g.T.Spawner.faults c.args.threads.now) (g.T.Spawner.starts c.args.threads.now)
 
 pub returns-then-inline-clause-ran : goal.returns-then-inline-clause-ran
 returns-then-inline-clause-ran g c =

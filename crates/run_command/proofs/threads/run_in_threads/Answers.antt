@@ -1,6 +1,7 @@
-use Rattle.std.proofs.Common.{sym, subst}
+use Rattle.std.proofs.Common.{ap, Err, ◌^◌, ◌∙◌, sym, subst}
 use Rattle.adlb_threads.specs.Reports.{Reported}
 use Rattle.run_command.specs.Kept.{HasRun}
+use Rattle.run_command.proofs.Late.{ran_late}
 use Rattle.run_command.proofs.RunKept.{one_run, threaded_has_run}
 use Rattle.run_command.proofs.threads.run_in_threads.Goals as goal
 
@@ -13,3 +14,12 @@ returns-in-Ok-run_ranks-clause-run g c =
     (sym c.threaded.ensures.report)
     (threaded_has_run _ _ _ _ c.args.config c.in-Ok-run_ranks.report c.in-Ok-run_ranks.ensures.run c.in-Ok.ensures.all
     c.in-Ok.ensures.programs)
+
+-- the stamps ran out, or not
+pub returns-in-Err-clause-faults : goal.returns-in-Err-clause-faults
+returns-in-Err-clause-faults g c =
+    ran_late (g.C.Command.are_programs c.args.command.now) g.C.Program.RankProgram.so_far c.args.asked.now c.args.config
+    c.in-Ok.programs.items c.in-Ok.ensures.all c.in-Ok.ensures.programs
+    (g.C.Command.may_take c.args.command.now c.args.asked.now c.args.config.ranks (2 ^ 34))
+    (g.met.C.Command.takes c.args.command.now c.args.asked.now c.args.config.ranks (2 ^ 34)) c.in-Err.met c.in-Err.ensures.faults
+    (λ stamp e. c.run_ranks.ensures.late stamp (c.in-Err.is ∙ ap Err e))

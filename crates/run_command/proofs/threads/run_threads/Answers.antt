@@ -1,4 +1,4 @@
-use Rattle.std.proofs.Common.{◌≡◌, true, refl}
+use Rattle.std.proofs.Common.{◌≡◌, ◌^◌, true, refl}
 use Rattle.run_command.specs.Ends.{scene}
 use Rattle.run_command.specs.Kept.{IsKept, Kept}
 use Rattle.run_command.proofs.Ending.{ends_answered, ends_as_stopped, kept_has}
@@ -8,7 +8,7 @@ pub returns-in-Ok-clause-ends : goal.returns-in-Ok-clause-ends
 returns-in-Ok-clause-ends g c =
     ends_answered (g.C.Command.asks c.args.command.now) (g.C.Command.refuses c.args.command.now)
     (IsKept (g.C.Command.are_programs c.args.command.now) g.C.Program.RankProgram.follows) (g.C.Command.tells c.args.command.now)
-    (λ asked. Unit {0})
+    (λ asked. g.C.Command.may_take c.args.command.now asked c.args.config.ranks (2 ^ 34))
     (scene (g.S.Source.left c.args.input.now) (g.S.Source.faults c.args.input.now) (g.K.Sink.taken c.args.output.now)
     (g.K.Sink.faults c.args.output.now) (g.K.Sink.all_flushed c.args.output.now) (g.T.Spawner.faults c.args.threads.now)
     (g.T.Spawner.starts c.args.threads.now))
@@ -22,7 +22,7 @@ pub returns-in-Err-clause-ends : goal.returns-in-Err-clause-ends
 returns-in-Err-clause-ends g c =
     ends_as_stopped (g.C.Command.asks c.args.command.now) (g.C.Command.refuses c.args.command.now)
     (IsKept (g.C.Command.are_programs c.args.command.now) g.C.Program.RankProgram.follows) (g.C.Command.tells c.args.command.now)
-    (λ asked. Unit {0})
+    (λ asked. g.C.Command.may_take c.args.command.now asked c.args.config.ranks (2 ^ 34))
     (scene (g.S.Source.left c.args.input.now) (g.S.Source.faults c.args.input.now) (g.K.Sink.taken c.args.output.now)
     (g.K.Sink.faults c.args.output.now) (g.K.Sink.all_flushed c.args.output.now) (g.T.Spawner.faults c.args.threads.now)
     (g.T.Spawner.starts c.args.threads.now))

@@ -28,10 +28,11 @@ returns-clause-drills g c = λ left reads.
     record {
       rest = rest;
       ends = subst
-          (λ (l : List ℕ). EndsWith settings c.args.inline (IsSummed settings count seed) (made l) after c.run.result.fault
+          (λ (l : List ℕ). EndsWith settings c.args.config.ranks (IsSummed settings count seed) (made l) after c.run.result.fault
           c.run.result.kept)
           (c.new-source.ensures ∙ c.in-Ok.ensures) c.run.ensures.ends;
-      run = ran_apart (λ (x : Config). x ≡ c.args.config) c.args.inline before after here there c.run.result.kept refl refl refl refl
-          c.run.ensures.ran;
+      run = ran_apart (λ (x : Config). x ≡ c.args.config) c.args.inline before after here there c.run.result.kept
+          (refl {a = refused}) (refl {a = started}) (refl {a = g.T.Spawner.faults c.run.new.threads})
+          (refl {a = g.T.Spawner.starts c.run.new.threads}) c.run.ensures.ran;
       unread = record { left = refl; reads = refl };
     }

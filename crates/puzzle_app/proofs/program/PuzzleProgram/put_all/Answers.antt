@@ -20,6 +20,7 @@ returns-in_err-put-clause-so_far g c =
     let popped : Popped c.in-Some.made c.puts.desk rest = popped_off c.in-Some.made c.puts.desk rest c.in-Some.ensures.items in
     put_way c.args.self.now _ _ c.puts.desk rest c.in-Some.made at.0 at.1 _
     (c.puts.invariant.going at.0 at.1 at.2 at.3) popped c.in_err-put.ensures.same c.in_err-put.ensures.begun
+    c.in_err-put.ensures.begun_form
 
 pub returns-clause-so_far : goal.returns-clause-so_far
 returns-clause-so_far g c =
@@ -56,7 +57,7 @@ puts-preserved g c =
     let one = replied _ _ (put_of c.in-Some.made) _ replies.Rejected c.in_ok-put.ensures.says c.in-Rejected.is in record {
       going = λ after on bytes start. rejected_is c.args.self.now _ _ c.puts.desk rest c.receive.new.self c.in-Some.made c.args.common.now
           after on
-          (c.puts.invariant.going after on bytes start) bytes popped one c.in-Ok.ensures;
+          (c.puts.invariant.going after on bytes start) bytes popped c.in_ok-put.ensures.form one c.in-Ok.ensures;
       whole = c.in_ok-put.ensures.kept.whole;
       more = grows _ _ _ _ c.puts.invariant.more one;
       seat = c.in_ok-put.ensures.kept.seat ∙ c.puts.invariant.seat;
@@ -70,14 +71,14 @@ returns-in_default-receive-clause-so_far g c =
     let popped : Popped c.in-Some.made c.puts.desk rest = popped_off c.in-Some.made c.puts.desk rest c.in-Some.ensures.items in
     whole_way c.args.self.now _ _ _ c.in_ok-put.ensures.kept.whole
     (rejected_so c.args.self.now _ _ c.puts.desk rest c.in-Some.made at.0 at.1 (c.puts.invariant.going at.0 at.1 at.2 at.3) popped
-    (replied _ _ (put_of c.in-Some.made) _ replies.Rejected c.in_ok-put.ensures.says c.in-Rejected.is))
+    c.in_ok-put.ensures.form (replied _ _ (put_of c.in-Some.made) _ replies.Rejected c.in_ok-put.ensures.says c.in-Rejected.is))
 
 pub returns-in-Ended-clause-told : goal.returns-in-Ended-clause-told
 returns-in-Ended-clause-told g c =
     let rest : Desk = record c.puts.desk { waiting = c.pop_front.new.self } in
     let popped : Popped c.in-Some.made c.puts.desk rest = popped_off c.in-Some.made c.puts.desk rest c.in-Some.ensures.items in
     λ on bytes after start. stopped_is c.args.self.now _ _ c.puts.desk rest c.in-Some.made c.in-Ended.field-0 after on
-    (c.puts.invariant.going after on bytes start) popped
+    (c.puts.invariant.going after on bytes start) popped c.in_ok-put.ensures.form
     (replied _ _ (put_of c.in-Some.made) _ (replies.Ended c.in-Ended.field-0) c.in_ok-put.ensures.says c.in-Ended.is)
 
 pub returns-in-Ended-clause-so_far : goal.returns-in-Ended-clause-so_far
@@ -88,5 +89,5 @@ returns-in-Ended-clause-so_far g c =
     whole_way c.args.self.now _ _ _ c.in_ok-put.ensures.kept.whole
     (stopped_so c.args.self.now _ rest at.1
     (stopped_is c.args.self.now _ _ c.puts.desk rest c.in-Some.made c.in-Ended.field-0 at.0 at.1
-    (c.puts.invariant.going at.0 at.1 at.2 at.3) popped
+    (c.puts.invariant.going at.0 at.1 at.2 at.3) popped c.in_ok-put.ensures.form
     (replied _ _ (put_of c.in-Some.made) _ (replies.Ended c.in-Ended.field-0) c.in_ok-put.ensures.says c.in-Ended.is)))

@@ -1,0 +1,4 @@
+pub mod Numbers
+pub mod Finishing
+pub mod Telling
+pub mod Moments
