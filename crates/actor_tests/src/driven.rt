@@ -4,7 +4,7 @@ use adlb_unit::{
     Actor, BatchId, CommonRef, Config, End, Info, Letter, Message, Payload, Rank, Sending, Server,
     Target, Types, UnitId, UnitNote, WorkType,
 };
-use bag_ledger::{Answer, Call, Entry};
+use bag_ledger::{Answer, Body, Call, Entry};
 use rank_client::{ClientCore, ClientStep};
 use std::alloc::Global;
 use std::fmt::Write;
@@ -276,10 +276,13 @@ fn add_part(all: &mut String, common: Option<CommonRef>) -> Result<(), Fail> {
 // What each entry is, and its call.
 fn add_names(all: &mut String, entries: &[Entry]) -> Result<(), Fail> {
     for entry in entries {
-        let (name, call) = name(entry);
-        write!(all, " {name} {call}")?;
+        add_name(all, name(entry))?;
     }
     Ok(())
+}
+
+fn add_name(all: &mut String, (name, call): (&str, u64)) -> Result<(), Fail> {
+    Ok(write!(all, " {name} {call}")?)
 }
 
 fn name(entry: &Entry) -> (&'static str, u64) {
@@ -307,13 +310,16 @@ fn text(bytes: &[u8]) -> &str {
 fn add_answer(all: &mut String, answer: &Option<Answer>) -> Result<(), Fail> {
     match answer {
         None => Ok(()),
-        Some(Answer::Body(body)) => {
-            let (common, own) = body.runs();
-            let (common, own) = (text(common), text(own));
-            Ok(write!(all, " bytes {common}|{own}")?)
-        }
+        Some(Answer::Body(body)) => add_body(all, body),
         Some(other) => Ok(write!(all, " {other:?}")?),
     }
+}
+
+// The common bytes of a unit, and its own.
+fn add_body(all: &mut String, body: &Body) -> Result<(), Fail> {
+    let (common, own) = body.runs();
+    let (common, own) = (text(common), text(own));
+    Ok(write!(all, " bytes {common}|{own}")?)
 }
 
 // What a step gives: its stamp, to whom letters go, the entries, and the answer if there is one.
@@ -343,6 +349,10 @@ impl Told {
         }
     }
 
+    fn begin(&mut self, makes: Makes) {
+        self.begun = Some(makes);
+    }
+
     // The call that was begun is answered, if this is an answer.
     fn hear(&mut self, answer: Option<Answer>) {
         if let (Some(makes), Some(answer)) = (self.begun, answer) {
@@ -368,23 +378,42 @@ fn shown(
     line: Line,
 ) -> Result<String, Fail> {
     match line {
-        Line::Begins(makes) => {
-            begin(alloc, client, step, makes)?;
-            told.begun = Some(makes);
-            given(alloc, told, step)
-        }
-        Line::Hears(from, stamp, says) => {
-            hear(alloc, client, step, from, stamp, says)?;
-            given(alloc, told, step)
-        }
+        Line::Begins(makes) => begins(alloc, client, step, told, makes),
+        Line::Hears(from, stamp, says) => hears(alloc, client, step, told, (from, stamp, says)),
         Line::IsReady(makes) => is_ready(alloc, client, makes),
         Line::Expects(from, stamp, says) => expects(alloc, client, from, stamp, says),
-        Line::Answered => {
-            let count = told.answered;
-            Ok(format!(in alloc; "{count}")?)
-        }
+        Line::Answered => count(alloc, told.answered),
         Line::SaidLast => said_last(alloc, told),
     }
+}
+
+// What the step of a call gives.
+fn begins(
+    alloc: Global,
+    client: &mut ClientCore,
+    step: &mut ClientStep,
+    told: &mut Told,
+    makes: Makes,
+) -> Result<String, Fail> {
+    begin(alloc, client, step, makes)?;
+    told.begin(makes);
+    given(alloc, told, step)
+}
+
+// What the step of a letter gives: from whom it comes, its stamp, and what it says.
+fn hears(
+    alloc: Global,
+    client: &mut ClientCore,
+    step: &mut ClientStep,
+    told: &mut Told,
+    (from, stamp, says): (u32, u64, Says),
+) -> Result<String, Fail> {
+    hear(alloc, client, step, from, stamp, says)?;
+    given(alloc, told, step)
+}
+
+fn count(alloc: Global, number: usize) -> Result<String, Fail> {
+    Ok(format!(in alloc; "{number}")?)
 }
 
 fn said_last(alloc: Global, told: &Told) -> Result<String, Fail> {

@@ -3,11 +3,12 @@
 ghost use Rattle.std.specs.Prelude.{◌<◌};
 
 use adlb_unit::{
-    Actor, AskedList, BatchId, Config, Letter, Message, Payload, Rank, Server, Target, Token,
-    Trouble, Types, Unit, UnitId, UnitNote, Why, WorkType,
+    Actor, AskedList, BatchId, Config, Letter, Message, Payload, Rank, Sending, Server, Target,
+    Token, Trouble, Types, Unit, UnitId, UnitNote, Why, WorkType,
 };
 use server_core::{LeftUnit, ServerState, Spare, Step};
 use std::alloc::Global;
+use std::fmt::Write;
 use std::process::Abort;
 use std::test::Fail;
 
@@ -118,100 +119,100 @@ pub(crate) const KEEPS_FIRST: &str =
 
 // The message that says so. A rank sends it, or one of the others does.
 fn message(alloc: Global, says: Says) -> Result<Message, Fail> {
-    Ok(match says {
-        Says::Put(rank, number, size, target) => Message::Put {
+    match says {
+        Says::Put(rank, number, size, target) => Ok(Message::Put {
             unit: unit(alloc, rank, number, size, target)?,
-        },
-        Says::Reserve(request) => Message::Reserve {
+        }),
+        Says::Reserve(request) => Ok(Message::Reserve {
             request,
             types: Types::any(),
-        },
-        Says::Try(request, kind) => Message::Try {
+        }),
+        Says::Try(request, kind) => Ok(Message::Try {
             request,
             types: Types::list(&[WorkType(kind)])?,
-        },
-        Says::Fetch(request) => Message::Fetch {
+        }),
+        Says::Fetch(request) => Ok(Message::Fetch {
             request,
             id: unit_id(0, 0),
-        },
-        Says::Keep(request, size) => Message::KeepCommon {
+        }),
+        Says::Keep(request, size) => Ok(Message::KeepCommon {
             request,
             common: bytes(alloc, size)?,
-        },
-        Says::Close(request, number, accepted) => Message::CloseBatch {
+        }),
+        Says::Close(request, number, accepted) => Ok(Message::CloseBatch {
             request,
             batch: batch_id(number),
             accepted,
-        },
-        Says::Share(request, number) => Message::FetchCommon {
+        }),
+        Says::Share(request, number) => Ok(Message::FetchCommon {
             request,
             batch: batch_id(number),
-        },
-        Says::Count(request, kind) => Message::Count {
+        }),
+        Says::Count(request, kind) => Ok(Message::Count {
             request,
             kind: WorkType(kind),
-        },
-        Says::Done(request) => Message::Done { request },
-        Says::Finish => Message::Finish,
-        says => between_servers(alloc, says)?,
-    })
+        }),
+        Says::Done(request) => Ok(Message::Done { request }),
+        Says::Finish => Ok(Message::Finish),
+        says => between_servers(alloc, says),
+    }
 }
 
 fn between_servers(alloc: Global, says: Says) -> Result<Message, Fail> {
-    Ok(match says {
-        Says::Ask(rank, request) => Message::Ask {
+    match says {
+        Says::Ask(rank, request) => Ok(Message::Ask {
             rank: Rank(rank),
             request,
             types: Types::any(),
-        },
-        Says::AskGrant(rank, request) => Message::AskGrant {
+        }),
+        Says::AskGrant(rank, request) => Ok(Message::AskGrant {
             rank: Rank(rank),
             request,
             note: note(),
-        },
-        Says::AskNone(rank, request) => Message::AskNone {
+        }),
+        Says::AskNone(rank, request) => Ok(Message::AskNone {
             rank: Rank(rank),
             request,
-        },
-        Says::Hint(rank, request) => Message::Hint {
+        }),
+        Says::Hint(rank, request) => Ok(Message::Hint {
             rank: Rank(rank),
             request,
-        },
-        Says::Token(check, wave) => Message::Token {
+        }),
+        Says::Token(check, wave) => Ok(Message::Token {
             token: Token {
                 check,
                 wave,
                 asked: AskedList::new(alloc)?,
             },
-        },
-        Says::Shutdown => Message::Shutdown,
-        says => of_a_push(alloc, says)?,
-    })
+        }),
+        Says::Shutdown => Ok(Message::Shutdown),
+        says => of_a_push(alloc, says),
+    }
 }
 
 fn of_a_push(alloc: Global, says: Says) -> Result<Message, Fail> {
-    Ok(match says {
-        Says::PushQuery(rank, number, length) => Message::PushQuery {
+    match says {
+        Says::PushQuery(rank, number, length) => Ok(Message::PushQuery {
             id: unit_id(rank, number),
             length,
-        },
-        Says::PushYes(rank, number) => Message::PushYes {
+        }),
+        Says::PushYes(rank, number) => Ok(Message::PushYes {
             id: unit_id(rank, number),
-        },
-        Says::PushNo(rank, number) => Message::PushNo {
+        }),
+        Says::PushNo(rank, number) => Ok(Message::PushNo {
             id: unit_id(rank, number),
-        },
-        Says::PushUnit(rank, number, size) => Message::PushUnit {
+        }),
+        Says::PushUnit(rank, number, size) => Ok(Message::PushUnit {
             unit: unit(alloc, rank, number, size, Target::Any)?,
-        },
-        Says::PushCancel(rank, number) => Message::PushCancel {
+        }),
+        Says::PushCancel(rank, number) => Ok(Message::PushCancel {
             id: unit_id(rank, number),
-        },
-        Says::PushAck(rank, number) => Message::PushAck {
+        }),
+        Says::PushAck(rank, number) => Ok(Message::PushAck {
             id: unit_id(rank, number),
-        },
-        _ => return Err("no message".into()),
-    })
+        }),
+        _ => Err("no message".into()),
+    }
 }
 
 // The note of rank 2's first unit, which is at server 2.
@@ -286,10 +287,10 @@ fn step_at(
     stamp: u64,
     says: Says,
 ) -> Result<Result<Step, Trouble>, Fail> {
-    let letter = letter(alloc, stamp, says)?;
     if server.broken().is_some() {
         return Err("broken".into());
     }
+    let letter = letter(alloc, stamp, says)?;
     if !server.expects(from, &letter) {
         return Err("not expected".into());
     }
@@ -320,84 +321,127 @@ fn step_shown(alloc: Global, step: &Step) -> Result<String, Fail> {
 }
 
 fn hears(alloc: Global, server: &mut ServerState, from: Actor, says: Says) -> Result<String, Fail> {
-    let Step {
-        stamp,
-        sends,
-        entries,
-    } = step(alloc, server, from, says)?;
+    let step = step(alloc, server, from, says)?;
+    in_full(alloc, &step)
+}
+
+// The stamp of a step, its letters and its entries.
+fn in_full(alloc: Global, step: &Step) -> Result<String, Fail> {
+    let stamp = step.stamp;
+    let (sends, entries) = (&step.sends, &step.entries);
     Ok(format!(in alloc; "{stamp} {sends:?} {entries:?}")?)
 }
 
-// Each letter in short: to whom, its place, and what it says of which call.
 fn answers(
     alloc: Global,
     server: &mut ServerState,
     from: Actor,
     says: Says,
 ) -> Result<String, Fail> {
-    let Step {
-        stamp,
-        sends,
-        entries,
-    } = step(alloc, server, from, says)?;
-    let mut text = format!(in alloc; "{stamp}")?;
-    for sending in &sends {
-        let said = short(alloc, &sending.letter.message)?;
-        text = format!(in alloc; "{text}, {:?} {} {said}", sending.to, sending.letter.place)?;
-    }
-    Ok(format!(in alloc; "{text} {entries:?}")?)
+    let step = step(alloc, server, from, says)?;
+    let mut text = String::new(alloc);
+    add_step(&mut text, &step)?;
+    Ok(text)
 }
 
-fn short(alloc: Global, message: &Message) -> Result<String, Fail> {
-    Ok(match message {
-        Message::Ask { rank, request, .. } => format!(in alloc; "ask {} {request}", rank.0)?,
-        Message::AskGrant { rank, request, .. } => {
-            format!(in alloc; "grant {} {request}", rank.0)?
+// The stamp of a step, each letter in short, and its entries.
+fn add_step(text: &mut String, step: &Step) -> Result<(), Fail> {
+    let stamp = step.stamp;
+    write!(text, "{stamp}")?;
+    for sending in &step.sends {
+        add_letter(text, sending)?;
+    }
+    let entries = &step.entries;
+    Ok(write!(text, " {entries:?}")?)
+}
+
+// To whom a letter goes, its place, and what it says of which call.
+fn add_letter(text: &mut String, sending: &Sending) -> Result<(), Fail> {
+    let place = sending.letter.place;
+    write!(text, ", {:?} {place} ", sending.to)?;
+    add_words(text, &short(&sending.letter.message))
+}
+
+fn add_words(text: &mut String, words: &Short) -> Result<(), Fail> {
+    for (word, number) in words {
+        text.push_str(word)?;
+        if let Some(number) = number {
+            write!(text, "{number}")?;
         }
-        Message::AskNone { rank, request } => format!(in alloc; "none {} {request}", rank.0)?,
-        Message::Hint { rank, request } => format!(in alloc; "hint {} {request}", rank.0)?,
+    }
+    Ok(())
+}
+
+// A letter in short: words, each with the number that follows it, if one does.
+type Short = [(&'static str, Option<u64>); 3];
+
+const NO_WORD: (&str, Option<u64>) = ("", None);
+
+fn one(word: &'static str, number: u64) -> Short {
+    [(word, Some(number)), NO_WORD, NO_WORD]
+}
+
+fn two(word: &'static str, number: u64, then: &'static str, last: u64) -> Short {
+    [(word, Some(number)), (then, Some(last)), NO_WORD]
+}
+
+fn short(message: &Message) -> Short {
+    match message {
+        Message::Ask { rank, request, .. } => of_call("ask ", *rank, *request),
+        Message::AskGrant { rank, request, .. } => of_call("grant ", *rank, *request),
+        Message::AskNone { rank, request } => of_call("none ", *rank, *request),
+        Message::Hint { rank, request } => of_call("hint ", *rank, *request),
         Message::Grant { request, note } => {
-            format!(in alloc; "granted {request} at {}", note.server.0)?
+            two("granted ", *request, " at ", u64::from(note.server.0))
         }
-        Message::Accepted { request } => format!(in alloc; "accepted {request}")?,
-        Message::Full { request, charge } => format!(in alloc; "full {request} at {charge}")?,
-        Message::Bytes { request, .. } => format!(in alloc; "bytes {request}")?,
-        _ => push(alloc, message)?,
-    })
+        Message::Accepted { request } => one("accepted ", *request),
+        Message::Full { request, charge } => two("full ", *request, " at ", *charge),
+        Message::Bytes { request, .. } => one("bytes ", *request),
+        _ => push(message),
+    }
+}
+
+// A rank, and the number of its call.
+fn of_call(word: &'static str, rank: Rank, request: u64) -> Short {
+    two(word, u64::from(rank.0), " ", request)
 }
 
 // A letter of a push: of which rank's unit, of which number.
-fn push(alloc: Global, message: &Message) -> Result<String, Fail> {
-    Ok(match message {
-        Message::PushQuery { id, length } => {
-            format!(in alloc; "query {} {} of {length}", id.rank.0, id.number)?
-        }
-        Message::PushYes { id } => format!(in alloc; "yes {} {}", id.rank.0, id.number)?,
-        Message::PushNo { id } => format!(in alloc; "no {} {}", id.rank.0, id.number)?,
-        Message::PushUnit { unit } => {
-            let id = unit.id;
-            format!(in alloc; "unit {} {} of {}", id.rank.0, id.number, unit.body.len())?
-        }
-        Message::PushCancel { id } => format!(in alloc; "cancel {} {}", id.rank.0, id.number)?,
-        Message::PushAck { id } => format!(in alloc; "ack {} {}", id.rank.0, id.number)?,
-        _ => check(alloc, message)?,
-    })
+fn push(message: &Message) -> Short {
+    match message {
+        Message::PushQuery { id, length } => of_length("query ", *id, u64::from(*length)),
+        Message::PushYes { id } => of_unit("yes ", *id),
+        Message::PushNo { id } => of_unit("no ", *id),
+        Message::PushUnit { unit } => of_length("unit ", unit.id, unit.body.len() as u64),
+        Message::PushCancel { id } => of_unit("cancel ", *id),
+        Message::PushAck { id } => of_unit("ack ", *id),
+        _ => check(message),
+    }
+}
+
+fn of_unit(word: &'static str, id: UnitId) -> Short {
+    two(word, u64::from(id.rank.0), " ", id.number)
+}
+
+fn of_length(word: &'static str, id: UnitId, length: u64) -> Short {
+    let [rank, number, _] = of_unit(word, id);
+    [rank, number, (" of ", Some(length))]
 }
 
 // A letter of a check, or of an end.
-fn check(alloc: Global, message: &Message) -> Result<String, Fail> {
-    Ok(match message {
-        Message::Notice => format!(in alloc; "notice")?,
-        Message::Token { token } => {
-            format!(in alloc; "token {} in wave {}", token.check, token.wave)?
-        }
-        Message::Failed { token, why } => {
-            format!(in alloc; "failed {} as {}", token.check, reason(why))?
-        }
-        Message::DoneHeard { request } => format!(in alloc; "done heard {request}")?,
-        Message::Ended { request, .. } => format!(in alloc; "ended {request}")?,
-        _ => format!(in alloc; "another")?,
-    })
+fn check(message: &Message) -> Short {
+    match message {
+        Message::Notice => [("notice", None), NO_WORD, NO_WORD],
+        Message::Token { token } => two("token ", token.check, " in wave ", u64::from(token.wave)),
+        Message::Failed { token, why } => failed(token.check, reason(why)),
+        Message::DoneHeard { request } => one("done heard ", *request),
+        Message::Ended { request, .. } => one("ended ", *request),
+        _ => [("another", None), NO_WORD, NO_WORD],
+    }
+}
+
+fn failed(check: u64, reason: &'static str) -> Short {
+    [("failed ", Some(check)), (" as ", None), (reason, None)]
 }
 
 fn reason(why: &Why) -> &'static str {

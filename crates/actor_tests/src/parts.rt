@@ -4,6 +4,7 @@ ghost use Rattle.std.specs.Prelude.{◌≤◌, length};
 ghost use Rattle.adlb_unit.specs.Limits.{body_limit};
 ghost use Rattle.batch_store.specs.Store.{part_in, size_of};
 
+use crate::queue::say;
 use adlb_unit::{BatchId, Payload, Rank};
 use batch_store::BatchStore;
 use std::alloc::Global;
@@ -83,11 +84,16 @@ fn fetch(store: &mut BatchStore, queue: &mut WorkQueue, batch: BatchId) -> Optio
 }
 
 // Shows a fetch.
-fn shown(alloc: Global, given: Option<(Payload, bool)>) -> Result<String, Fail> {
-    let Some((bytes, freed)) = given else {
-        return Ok(format!(in alloc; "nothing")?);
-    };
-    let text = str::from_utf8(bytes.bytes()).unwrap_or("?");
+fn shown(alloc: Global, given: &Option<(Payload, bool)>) -> Result<String, Fail> {
+    match given {
+        Some((bytes, freed)) => fetched(alloc, bytes.bytes(), *freed),
+        None => say(alloc, "nothing"),
+    }
+}
+
+// The bytes that were fetched as text, and whether they were freed.
+fn fetched(alloc: Global, bytes: &[u8], freed: bool) -> Result<String, Fail> {
+    let text = str::from_utf8(bytes).unwrap_or("?");
     Ok(format!(in alloc; "{text} {freed}")?)
 }
 
@@ -106,32 +112,63 @@ fn make(
         Act::Keep(byte, size) => {
             let bytes = vec![in alloc; byte; size as usize]?;
             let answer = keep(store, queue, batch, Payload::from_vec(bytes));
-            Ok(format!(in alloc; "{answer}")?)
+            say(alloc, answer)
         }
-        Act::Close(accepted) => {
-            let answer = close(store, queue, batch, accepted);
-            Ok(format!(in alloc; "{answer}")?)
-        }
-        Act::Fetch => shown(alloc, fetch(store, queue, batch)),
+        Act::Close(accepted) => say(alloc, close(store, queue, batch, accepted)),
+        Act::Fetch => shown(alloc, &fetch(store, queue, batch)),
     }
 }
 
+// A step, how it is answered, and the charge that it leaves.
+type Row = (Act, &'static str, u64);
+
 // At a server with room for 64 bytes, each step is answered so, and leaves this charge.
-fn check(rt: &impl Abort, alloc: Global, rows: &[(Act, &str, u64)]) -> Result<(), Fail> {
+fn check(rt: &impl Abort, alloc: Global, rows: &[Row]) -> Result<(), Fail> {
     let rank = Rank(3);
     let batch = BatchId { rank, number: 5 };
     let mut store = BatchStore::new(alloc);
     let mut queue = WorkQueue::new(alloc, 64);
-    for (act, expected, charge) in rows {
-        let answer = make(alloc, &mut store, &mut queue, batch, *act)?;
-        assert_eq!(rt; (answer.as_str(), queue.charge()), (*expected, *charge));
+    go_through(rt, alloc, &mut store, &mut queue, batch, rows)
+}
+
+// The steps are answered as their rows say.
+fn go_through(
+    rt: &impl Abort,
+    alloc: Global,
+    store: &mut BatchStore,
+    queue: &mut WorkQueue,
+    batch: BatchId,
+    rows: &[Row],
+) -> Result<(), Fail>
+    requires { size_of (part_in store.old batch) ≤ queue.old.common }
+{
+    for row in rows {
+        check_one(rt, alloc, store, queue, batch, *row)?;
     }
+    Ok(())
+}
+
+fn check_one(
+    rt: &impl Abort,
+    alloc: Global,
+    store: &mut BatchStore,
+    queue: &mut WorkQueue,
+    batch: BatchId,
+    row: Row,
+) -> Result<(), Fail>
+    requires { size_of (part_in store.old batch) ≤ queue.old.common }
+    ensures { size_of (part_in store.new batch) ≤ queue.new.common }
+{
+    let (act, expected, charge) = row;
+    let answer = make(alloc, store, queue, batch, act)?;
+    assert_eq!(rt; answer.as_str(), expected);
+    assert_eq!(rt; queue.charge(), charge);
     Ok(())
 }
 
 #[test]
 fn frees_after_the_last_fetch(rt: HostRuntime) -> Result<(), Fail> {
-    const ROWS: &[(Act, &str, u64)] = &[
+    const ROWS: &[Row] = &[
         (Act::Keep(b'x', 3), "kept", 3),
         (Act::Close(1), "closed", 3),
         (Act::Fetch, "xxx true", 0),
@@ -147,7 +184,7 @@ fn frees_after_the_last_fetch(rt: HostRuntime) -> Result<(), Fail> {
 
 #[test]
 fn frees_when_nothing_is_due_at_the_close(rt: HostRuntime) -> Result<(), Fail> {
-    const ROWS: &[(Act, &str, u64)] = &[
+    const ROWS: &[Row] = &[
         (Act::Keep(b'x', 3), "kept", 3),
         (Act::Close(0), "freed", 0),
         (Act::Keep(b'z', 64), "kept", 64),

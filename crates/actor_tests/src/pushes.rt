@@ -3,9 +3,9 @@
 ghost use Rattle.std.specs.Prelude.{◌≡◌};
 ghost use Rattle.put_path.specs.Pushes.{is_query, is_under_way};
 
-use crate::queue::{id, is_new};
+use crate::queue::{id, is_new, say};
 use adlb_unit::{Config, Payload, Rank, Server, Target, Unit, UnitId, WorkType};
-use put_path::{Push, PushState, push_query, put};
+use put_path::{Push, PushQuery, PushState, push_query, put};
 use std::alloc::Global;
 use std::process::Abort;
 use std::test::Fail;
@@ -56,10 +56,10 @@ fn put_new(
     size: u8,
     prio: i32,
 ) -> Result<String, Fail> {
-    let body = Payload::from_vec(vec![in alloc; 7_u8; size as usize]?);
     if !is_new(queue, id) || queue.arrivals() > 9 {
-        return Ok(format!(in alloc; "not so")?);
+        return say(alloc, "not so");
     }
+    let body = Payload::from_vec(vec![in alloc; 7_u8; size as usize]?);
     let unit = Unit {
         id,
         kind: WorkType(1),
@@ -75,7 +75,7 @@ fn put_new(
 // Asks for room for a unit of this id, if that is new.
 fn ask_room(alloc: Global, queue: &mut WorkQueue, id: UnitId, length: u32) -> Result<String, Fail> {
     if !is_new(queue, id) {
-        return Ok(format!(in alloc; "not so")?);
+        return say(alloc, "not so");
     }
     Ok(format!(in alloc; "{}", push_query(queue, id, length)?)?)
 }
@@ -83,10 +83,40 @@ fn ask_room(alloc: Global, queue: &mut WorkQueue, id: UnitId, length: u32) -> Re
 // Grants the unit of this id, if it is free.
 fn pin(alloc: Global, queue: &mut WorkQueue, id: UnitId) -> Result<String, Fail> {
     if !queue.is_free(id) {
-        return Ok(format!(in alloc; "not so")?);
+        return say(alloc, "not so");
     }
     queue.pin(id, Rank(0));
-    Ok(format!(in alloc; "pinned")?)
+    say(alloc, "pinned")
+}
+
+// Shows the room that is asked for.
+fn asks(alloc: Global, query: Option<PushQuery>) -> Result<String, Fail> {
+    match query {
+        Some(query) => Ok(format!(in alloc;
+            "{} {} {}",
+            query.to.0, query.id.number, query.length
+        )?),
+        None => say(alloc, "none"),
+    }
+}
+
+// Shows what is sent where there is room.
+fn goes(alloc: Global, push: &Push) -> Result<String, Fail> {
+    match push {
+        Push::Go(to, unit) => sends(alloc, "go", *to, unit.id),
+        Push::Cancel(to, id) => sends(alloc, "cancel", *to, *id),
+    }
+}
+
+fn sends(alloc: Global, what: &str, to: Server, id: UnitId) -> Result<String, Fail> {
+    Ok(format!(in alloc; "{what} {} {}", to.0, id.number)?)
+}
+
+// What is told of the push that stands.
+fn tells(alloc: Global, pushes: &PushState, to: Server, id: UnitId) -> Result<String, Fail> {
+    let asks = pushes.asks(to, id);
+    let sent = pushes.has_sent(to, id);
+    Ok(format!(in alloc; "{asks} {sent} {}", pushes.going())?)
 }
 
 // Makes the call, and shows its answer.
@@ -97,34 +127,21 @@ fn make(
     act: Act,
 ) -> Result<String, Fail> {
     match act {
-        Act::Pressure => Ok(match pushes.pressure(queue) {
-            Some(query) => format!(in alloc;
-                "{} {} {}",
-                query.to.0, query.id.number, query.length
-            )?,
-            None => format!(in alloc; "none")?,
-        }),
-        Act::Yes if is_query(pushes) => Ok(match pushes.push_yes(queue) {
-            Push::Go(to, unit) => format!(in alloc; "go {} {}", to.0, unit.id.number)?,
-            Push::Cancel(to, id) => format!(in alloc; "cancel {} {}", to.0, id.number)?,
-        }),
+        Act::Pressure => asks(alloc, pushes.pressure(queue)),
+        Act::Yes if is_query(pushes) => goes(alloc, &pushes.push_yes(queue)),
         Act::No if is_query(pushes) => {
             pushes.push_no();
-            Ok(format!(in alloc; "ended")?)
+            say(alloc, "ended")
         }
         Act::Ack if is_under_way(pushes) => {
             pushes.push_ack();
-            Ok(format!(in alloc; "ended")?)
+            say(alloc, "ended")
         }
-        Act::Tells(to, number) => {
-            let asks = pushes.asks(Server(to), id(number));
-            let sent = pushes.has_sent(Server(to), id(number));
-            Ok(format!(in alloc; "{asks} {sent} {}", pushes.going())?)
-        }
+        Act::Tells(to, number) => tells(alloc, pushes, Server(to), id(number)),
         Act::Put(number, size, prio) => put_new(alloc, queue, id(number), size, prio),
         Act::Query(number, length) => ask_room(alloc, queue, id(number), length),
         Act::Pin(number) => pin(alloc, queue, id(number)),
-        _ => Ok(format!(in alloc; "not so")?),
+        _ => say(alloc, "not so"),
     }
 }
 
@@ -133,11 +150,35 @@ fn play(rt: &impl Abort, alloc: Global, rows: &[(Act, &str)], charge: u64) -> Re
     let config = Config::new(1, 3, 64)?;
     let mut pushes = PushState::new(config, Server(2));
     let mut queue = WorkQueue::new(alloc, 64);
+    go_through(rt, alloc, &mut pushes, &mut queue, rows, charge)
+}
+
+// The calls are answered as their rows say, and the queue has this charge after them.
+fn go_through(
+    rt: &impl Abort,
+    alloc: Global,
+    pushes: &mut PushState,
+    queue: &mut WorkQueue,
+    rows: &[(Act, &str)],
+    charge: u64,
+) -> Result<(), Fail> {
     for (act, expected) in rows {
-        let answer = make(alloc, &mut pushes, &mut queue, *act)?;
-        assert_eq!(rt; answer.as_str(), *expected);
+        check(rt, alloc, pushes, queue, *act, expected)?;
     }
     assert_eq!(rt; queue.charge(), charge);
+    Ok(())
+}
+
+fn check(
+    rt: &impl Abort,
+    alloc: Global,
+    pushes: &mut PushState,
+    queue: &mut WorkQueue,
+    act: Act,
+    expected: &str,
+) -> Result<(), Fail> {
+    let answer = make(alloc, pushes, queue, act)?;
+    assert_eq!(rt; answer.as_str(), expected);
     Ok(())
 }
 

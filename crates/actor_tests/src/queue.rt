@@ -3,7 +3,7 @@
 ghost use Rattle.std.specs.Prelude.{◌≡◌, ◌≤◌, IfOk, IsTrue, length};
 ghost use Rattle.work_queue.specs.Queue.{HasNoPromise, HasNoUnit};
 
-use adlb_unit::{Payload, Rank, Target, Types, Unit, UnitId, WorkType};
+use adlb_unit::{Info, Payload, Rank, Target, Types, Unit, UnitId, WorkType};
 use std::alloc::Global;
 use std::process::Abort;
 use std::test::Fail;
@@ -84,10 +84,15 @@ pub fn is_new(queue: &WorkQueue, id: UnitId) -> bool
 
 // What became of an attempt.
 fn outcome(alloc: Global, fault: Option<AddFault>) -> Result<String, Fail> {
-    Ok(match fault {
-        None => format!(in alloc; "done")?,
-        Some(fault) => format!(in alloc; "{fault}")?,
-    })
+    match fault {
+        None => say(alloc, "done"),
+        Some(fault) => Ok(format!(in alloc; "{fault}")?),
+    }
+}
+
+/// These words.
+pub fn say(alloc: Global, words: &str) -> Result<String, Fail> {
+    Ok(String::from_str(alloc, words)?)
 }
 
 // Adds a unit of a new id.
@@ -156,7 +161,7 @@ fn remove(queue: &mut WorkQueue, id: UnitId) -> Option<usize> {
 // What is said of the unit.
 fn tell(alloc: Global, queue: &WorkQueue, id: UnitId) -> Result<String, Fail> {
     if !queue.has_unit(id) {
-        return Ok(format!(in alloc; "none")?);
+        return say(alloc, "none");
     }
     let (facts, target) = queue.facts(id);
     let pin = queue.pinned_to(id);
@@ -165,78 +170,93 @@ fn tell(alloc: Global, queue: &WorkQueue, id: UnitId) -> Result<String, Fail> {
 
 // What the queue tells.
 fn told(alloc: Global, queue: &WorkQueue, step: Step) -> Result<String, Fail> {
-    Ok(match step {
-        Step::Push => {
-            let first = queue.first_to_push();
-            format!(in alloc; "{:?}", first.map(|is| (is.0.number, is.1)))?
-        }
-        Step::Fits(one, other, kind) => {
-            let asked = [
-                (Rank(one), types(Some(kind))?),
-                (Rank(other), types(Some(kind))?),
-            ];
-            let found = queue.fits(&asked);
-            format!(in alloc; "{:?}", found.map(|id| id.number))?
-        }
-        Step::Counts(kind) => {
-            let info = queue.counts(WorkType(kind));
-            format!(in alloc; "{} {:?} {}", info.free, info.top, info.at_top)?
-        }
-        Step::At(place) => {
-            let seen = queue.unit_at(place);
-            format!(in alloc; "{:?}", seen.map(|at| (at.0.number, at.1)))?
-        }
-        Step::Tell(number) => tell(alloc, queue, id(number))?,
-        _ => format!(in alloc; "{} {}", queue.charge(), queue.arrivals())?,
-    })
+    match step {
+        Step::Push => pair(alloc, first_to_push(queue)),
+        Step::Fits(one, other, kind) => fits(alloc, queue, one, other, kind),
+        Step::Counts(kind) => counts(alloc, queue.counts(WorkType(kind))),
+        Step::At(place) => at(alloc, queue, place),
+        Step::Tell(number) => tell(alloc, queue, id(number)),
+        _ => Ok(format!(in alloc; "{} {}", queue.charge(), queue.arrivals())?),
+    }
+}
+
+// The number and the length of a unit, if there is one.
+fn pair(alloc: Global, unit: Option<(u64, u32)>) -> Result<String, Fail> {
+    Ok(format!(in alloc; "{unit:?}")?)
+}
+
+fn first_to_push(queue: &WorkQueue) -> Option<(u64, u32)> {
+    let (unit, length) = queue.first_to_push()?;
+    Some((unit.number, length))
+}
+
+// The number of the unit of this type that fits the one rank or the other.
+fn fits(alloc: Global, queue: &WorkQueue, one: u32, other: u32, kind: u32) -> Result<String, Fail> {
+    let asked = [
+        (Rank(one), types(Some(kind))?),
+        (Rank(other), types(Some(kind))?),
+    ];
+    let found = queue.fits(&asked);
+    Ok(format!(in alloc; "{:?}", found.map(|id| id.number))?)
+}
+
+fn counts(alloc: Global, info: Info) -> Result<String, Fail> {
+    Ok(format!(in alloc; "{} {:?} {}", info.free, info.top, info.at_top)?)
+}
+
+// The number of the unit at this place, and the rank to which it is pinned.
+fn at(alloc: Global, queue: &WorkQueue, place: u64) -> Result<String, Fail> {
+    let seen = queue.unit_at(place);
+    Ok(format!(in alloc; "{:?}", seen.map(|at| (at.0.number, at.1)))?)
 }
 
 // Makes the step, and shows its answer.
 fn answer(alloc: Global, queue: &mut WorkQueue, step: Step) -> Result<String, Fail> {
-    Ok(match step {
+    match step {
         Step::Add(number, kind, prio, target, size) => {
-            let fault = add(queue, unit(alloc, number, kind, prio, target, size)?);
-            outcome(alloc, fault)?
+            let unit = unit(alloc, number, kind, prio, target, size)?;
+            outcome(alloc, add(queue, unit))
         }
-        Step::Promise(number, n) => outcome(alloc, promise(queue, id(number), n))?,
+        Step::Promise(number, n) => outcome(alloc, promise(queue, id(number), n)),
         Step::Come(number, size) => {
             come(queue, unit(alloc, number, 5, 0, Target::Any, size)?);
-            outcome(alloc, None)?
+            say(alloc, "done")
         }
         Step::Withdraw(number) => {
             withdraw(queue, id(number));
-            outcome(alloc, None)?
+            say(alloc, "done")
         }
-        Step::Hold(n) => hold(alloc, queue, n, 0)?,
-        Step::HoldFor(n, given) => hold(alloc, queue, n, given)?,
-        Step::Give(rank, kind) => {
-            let types = types(kind)?;
-            format!(in alloc; "{:?}", give(queue, rank, &types))?
-        }
-        Step::Take(number, rank) => taken(alloc, take(queue, id(number), Rank(rank)))?,
-        Step::Remove(number) => format!(in alloc; "{:?}", remove(queue, id(number)))?,
-        _ => told(alloc, queue, step)?,
-    })
+        Step::Hold(n) => hold(alloc, queue, n, 0),
+        Step::HoldFor(n, given) => hold(alloc, queue, n, given),
+        Step::Give(rank, kind) => pair(alloc, give(queue, rank, &types(kind)?)),
+        Step::Take(number, rank) => taken(alloc, take(queue, id(number), Rank(rank))),
+        Step::Remove(number) => removed(alloc, remove(queue, id(number))),
+        _ => told(alloc, queue, step),
+    }
+}
+
+fn removed(alloc: Global, length: Option<usize>) -> Result<String, Fail> {
+    Ok(format!(in alloc; "{length:?}")?)
 }
 
 // The bytes that were taken.
 fn taken(alloc: Global, body: Option<Payload>) -> Result<String, Fail> {
-    Ok(match body {
-        None => format!(in alloc; "none")?,
-        Some(body) => format!(in alloc; "{:?}", body.bytes())?,
-    })
+    match &body {
+        None => say(alloc, "none"),
+        Some(body) => Ok(format!(in alloc; "{:?}", body.bytes())?),
+    }
 }
 
 // Holds `n` bytes, and gives some of them back.
 fn hold(alloc: Global, queue: &mut WorkQueue, n: u32, given: u32) -> Result<String, Fail> {
-    Ok(match queue.hold(n) {
+    match queue.hold(n) {
         Ok(()) if given <= n => {
             queue.release(given);
-            format!(in alloc; "done")?
+            say(alloc, "done")
         }
-        Ok(()) => format!(in alloc; "not so many")?,
-        Err(full) => format!(in alloc; "{full}")?,
-    })
+        Ok(()) => say(alloc, "not so many"),
+        Err(full) => Ok(format!(in alloc; "{full}")?),
+    }
 }
 
 // A step of the queue has this answer.
@@ -329,9 +349,19 @@ const SOFT: &[(Step, &str)] = &[
 // Each is given to the rank asking, in this order.
 fn soft_for(rt: &impl Abort, alloc: Global, rank: u32, order: &[&str]) -> Result<(), Fail> {
     let mut queue = WorkQueue::new(alloc, 1000);
-    go_through(rt, alloc, &mut queue, SOFT)?;
+    gives(rt, alloc, &mut queue, rank, order)
+}
+
+fn gives(
+    rt: &impl Abort,
+    alloc: Global,
+    queue: &mut WorkQueue,
+    rank: u32,
+    order: &[&str],
+) -> Result<(), Fail> {
+    go_through(rt, alloc, queue, SOFT)?;
     for expected in order {
-        check(rt, alloc, &mut queue, Step::Give(rank, None), expected)?;
+        check(rt, alloc, queue, Step::Give(rank, None), expected)?;
     }
     Ok(())
 }

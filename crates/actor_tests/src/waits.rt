@@ -3,7 +3,7 @@
 ghost use Rattle.std.specs.Prelude.{◌≡◌, IsTrue, true};
 ghost use Rattle.reserve_path.specs.Parked.{IsAway, IsHere, IsOther, is_pending};
 
-use crate::queue::{id, is_new};
+use crate::queue::{id, is_new, say};
 use adlb_unit::{Config, Payload, Rank, Server, Target, Types, Unit, UnitId, UnitNote, WorkType};
 use reserve_path::{Parked, ReserveStep};
 use std::alloc::Global;
@@ -87,27 +87,32 @@ fn is_pending(parked: &Parked, rank: Rank) -> bool
 
 // Shows what a reserve came to.
 fn shown(alloc: Global, step: ReserveStep) -> Result<String, Fail> {
-    Ok(match step {
-        ReserveStep::Granted(note) => format!(in alloc; "unit {}", note.id.number)?,
-        ReserveStep::Ask(server) => format!(in alloc; "ask {}", server.0)?,
-        ReserveStep::Idle => format!(in alloc; "idle")?,
-    })
+    match step {
+        ReserveStep::Granted(note) => unit(alloc, Some(note)),
+        ReserveStep::Ask(server) => asks(alloc, server),
+        ReserveStep::Idle => say(alloc, "idle"),
+    }
 }
 
 // Shows the unit that was granted.
 fn unit(alloc: Global, note: Option<UnitNote>) -> Result<String, Fail> {
-    Ok(match note {
-        Some(note) => format!(in alloc; "unit {}", note.id.number)?,
-        None => format!(in alloc; "none")?,
-    })
+    match note {
+        Some(note) => Ok(format!(in alloc; "unit {}", note.id.number)?),
+        None => say(alloc, "none"),
+    }
+}
+
+// Shows the server that is to be asked.
+fn asks(alloc: Global, server: Server) -> Result<String, Fail> {
+    Ok(format!(in alloc; "ask {}", server.0)?)
 }
 
 // Shows a rank and its request.
 fn call(alloc: Global, call: Option<(Rank, u64)>) -> Result<String, Fail> {
-    Ok(match call {
-        Some((rank, request)) => format!(in alloc; "{} {request}", rank.0)?,
-        None => format!(in alloc; "nobody")?,
-    })
+    match call {
+        Some((rank, request)) => Ok(format!(in alloc; "{} {request}", rank.0)?),
+        None => say(alloc, "nobody"),
+    }
 }
 
 // Reserves for a rank that is at home here and does not wait.
@@ -137,13 +142,13 @@ fn answer(
         }
         Act::Grant(rank) if is_pending(parked, Rank(rank)) => {
             parked.remote_grant(Rank(rank));
-            Ok(format!(in alloc; "done")?)
+            say(alloc, "done")
         }
         Act::End(rank) if is_pending(parked, Rank(rank)) => {
             parked.remote_end(Rank(rank));
-            Ok(format!(in alloc; "done")?)
+            say(alloc, "done")
         }
-        _ => Ok(format!(in alloc; "not so")?),
+        _ => say(alloc, "not so"),
     }
 }
 
@@ -162,10 +167,10 @@ fn ask(
         Act::Refuse(rank, request, kind) if is_away(parked, Rank(rank)) => {
             let types = only(kind)?;
             parked.refuse_ask(Rank(rank), request, &types);
-            Ok(format!(in alloc; "done")?)
+            say(alloc, "done")
         }
         Act::NextHint(kind, target) => call(alloc, parked.next_hint(WorkType(kind), target)),
-        _ => Ok(format!(in alloc; "not so")?),
+        _ => say(alloc, "not so"),
     }
 }
 
@@ -178,15 +183,15 @@ fn offer(
 ) -> Result<String, Fail> {
     let unit = id(number);
     if !queue.is_free(unit) {
-        return Ok(format!(in alloc; "not so")?);
+        return say(alloc, "not so");
     }
-    Ok(match parked.offer(queue, unit) {
-        Some((rank, request, note)) => format!(in alloc;
+    match parked.offer(queue, unit) {
+        Some((rank, request, note)) => Ok(format!(in alloc;
             "{} {request} {}",
             rank.0, note.id.number
-        )?,
-        None => format!(in alloc; "nobody")?,
-    })
+        )?),
+        None => say(alloc, "nobody"),
+    }
 }
 
 // What is said of those that wait.
@@ -206,27 +211,59 @@ fn make(
     match act {
         Act::Put(number, kind, target) => {
             put(alloc, queue, number, kind, target);
-            Ok(format!(in alloc; "put")?)
+            say(alloc, "put")
         }
         Act::Reserve(rank, request, kind) => {
-            let types = only(kind)?;
-            match reserve(parked, queue, Rank(rank), request, &types) {
-                Some(step) => shown(alloc, step),
-                None => Ok(format!(in alloc; "not so")?),
-            }
+            reserves(alloc, parked, queue, Rank(rank), request, kind)
         }
-        Act::Try(rank, kind) if rank < parked.seat().0.ranks => {
-            let types = only(kind)?;
-            unit(alloc, parked.try_reserve(queue, Rank(rank), &types))
-        }
+        Act::Try(rank, kind) => tries(alloc, parked, queue, Rank(rank), kind),
         Act::Offer(number) => offer(alloc, parked, queue, number),
         Act::EndIdle => call(alloc, parked.end_idle()),
         Act::All => told(alloc, parked),
-        Act::Awaits(rank) => Ok(format!(in alloc; "{:?}", parked.awaits(Rank(rank)))?),
+        Act::Awaits(rank) => awaits(alloc, parked, Rank(rank)),
         Act::Hint(rank, request, from) => hint(alloc, parked, Rank(rank), request, Server(from)),
         Act::Ask(..) | Act::Refuse(..) | Act::NextHint(..) => ask(alloc, parked, queue, act),
         _ => answer(alloc, parked, queue, act),
     }
+}
+
+fn reserves(
+    alloc: Global,
+    parked: &mut Parked,
+    queue: &mut WorkQueue,
+    rank: Rank,
+    request: u64,
+    kind: u32,
+) -> Result<String, Fail> {
+    let types = only(kind)?;
+    let step = reserve(parked, queue, rank, request, &types);
+    reserved(alloc, step)
+}
+
+fn reserved(alloc: Global, step: Option<ReserveStep>) -> Result<String, Fail> {
+    match step {
+        Some(step) => shown(alloc, step),
+        None => say(alloc, "not so"),
+    }
+}
+
+// Tries for a rank of the run.
+fn tries(
+    alloc: Global,
+    parked: &mut Parked,
+    queue: &mut WorkQueue,
+    rank: Rank,
+    kind: u32,
+) -> Result<String, Fail> {
+    if rank.0 >= parked.seat().0.ranks {
+        return say(alloc, "not so");
+    }
+    unit(alloc, parked.try_reserve(queue, rank, &only(kind)?))
+}
+
+// The request of a rank that waits, and the server that was asked.
+fn awaits(alloc: Global, parked: &Parked, rank: Rank) -> Result<String, Fail> {
+    Ok(format!(in alloc; "{:?}", parked.awaits(rank))?)
 }
 
 // Hears a hint.
@@ -238,12 +275,12 @@ fn hint(
     from: Server,
 ) -> Result<String, Fail> {
     if !is_here(parked, rank) || !is_other(parked, from) {
-        return Ok(format!(in alloc; "not so")?);
+        return say(alloc, "not so");
     }
-    Ok(match parked.hint(rank, request, from) {
-        Some(server) => format!(in alloc; "ask {}", server.0)?,
-        None => format!(in alloc; "later")?,
-    })
+    match parked.hint(rank, request, from) {
+        Some(server) => asks(alloc, server),
+        None => say(alloc, "later"),
+    }
 }
 
 // In a run of these many servers, each call is answered so.
@@ -254,10 +291,33 @@ fn play(rt: &impl Abort, alloc: Global, servers: u32, rows: &[(Act, &str)]) -> R
     }
     let mut parked = Parked::new(alloc, config, Server(0))?;
     let mut queue = WorkQueue::new(alloc, 64);
+    go_through(rt, alloc, &mut parked, &mut queue, rows)
+}
+
+// The calls are answered as their rows say.
+fn go_through(
+    rt: &impl Abort,
+    alloc: Global,
+    parked: &mut Parked,
+    queue: &mut WorkQueue,
+    rows: &[(Act, &str)],
+) -> Result<(), Fail> {
     for (act, expected) in rows {
-        let answer = make(alloc, &mut parked, &mut queue, *act)?;
-        assert_eq!(rt; answer.as_str(), *expected);
+        check(rt, alloc, parked, queue, *act, expected)?;
     }
+    Ok(())
+}
+
+fn check(
+    rt: &impl Abort,
+    alloc: Global,
+    parked: &mut Parked,
+    queue: &mut WorkQueue,
+    act: Act,
+    expected: &str,
+) -> Result<(), Fail> {
+    let answer = make(alloc, parked, queue, act)?;
+    assert_eq!(rt; answer.as_str(), expected);
     Ok(())
 }
 

@@ -1,0 +1,6 @@
+use Rattle.std.proofs.Common.{◌≤◌}
+use Rattle.batch_store.specs.Store.{part_in, size_of}
+use Rattle.actor_tests.proofs.parts.go_through.Given as goal
+
+abbrev pub invariant-loop-row : goal.invariant-loop-row
+invariant-loop-row g l = size_of (part_in l.store l.batch) ≤ l.queue.common
