@@ -1,10 +1,8 @@
 -- A stamp that was too long for a step of an actor's own is that of its next event, in one run of all actors.
-use Rattle.std.proofs.Common.{◌≡◌, ◌⊎◌, inl, inr, ◌<◌, ◌≤◌, ◌+◌, ℕ, zero, suc}
-use Rattle.std.proofs.Common.{Bool, true, false, List, [], ◌∷◌, ◌++◌, length, map, slice_get}
-use Rattle.std.proofs.Common.{Some, cond, refl, ap, sym, ◌∙◌, subst, arith, lt-ltb, length-append}
-use Rattle.std.specs.Prelude.{IsSome}
+use Rattle.std.proofs.Common.{◌≡◌, inl, inr, ◌≤◌, ◌+◌, ℕ}
+use Rattle.std.proofs.Common.{Bool, true, false, List, [], ◌∷◌, ◌++◌, map, slice_get}
+use Rattle.std.proofs.Common.{Some, cond, refl, ap, sym, ◌∙◌, subst, arith, lt-ltb}
 use Rattle.std.proofs.lemmas.Bool.{eq-eqb, false≢true}
-use Rattle.std.proofs.lemmas.List.{length-map}
 use Rattle.std.proofs.lemmas.Option.{slice_get_within}
 use Rattle.adlb_unit.specs.Limits.{stamp_limit}
 use Rattle.adlb_unit.specs.Links.{is_within, place_of, stamp_after}
@@ -19,8 +17,7 @@ use Rattle.rank_client.specs.State.{ClientModel, start as new_client}
 use Rattle.rank_mail.specs.declared.posted.Posted.{Posted}
 use Rattle.rank_mail.specs.Mailboxes.{letters_of}
 use Rattle.server_law.specs.State.{ServerModel, start as new_pool}
-use Rattle.server_law.specs.Step.{serve}
-use Rattle.merge_history.specs.Own.{ClientWalks, Finals, IsOneHistory, got}
+use Rattle.merge_history.specs.Own.{Finals, IsOneHistory, got}
 use Rattle.fallen_law.proofs.Expecting.{late_many}
 use Rattle.fallen_law.proofs.Nexts.{heard_plain, served_plain}
 use Rattle.fallen_law.specs.Fallen.{WouldBear, last_stamp}
@@ -29,26 +26,13 @@ use Rattle.thread_client.specs.Jobs.{Ended, WouldBear as StopsAt}
 use Rattle.thread_client.specs.declared.faults.ActorFault.TheVariants.{TooLong}
 use Rattle.thread_server.specs.Jobs.{BreaksBy, Ended as Served, IsBroken}
 use Rattle.thread_server.proofs.Begun.{comes_next}
-use Rattle.adlb_threads.specs.inside.{AreClear, AreOwnRuns, AreRanksEnds, AreReceived}
+use Rattle.adlb_threads.specs.Ends.{AreReceived}
+use Rattle.adlb_threads.specs.inside.{AreClear, AreOwnRuns, AreRanksEnds}
 use Rattle.adlb_threads.specs.inside.{AreServersEnds, IsLateEnd, all_met, desks_of, journals_at}
-use Rattle.adlb_threads.proofs.Endings.{are_clear, finals, own_runs, rank_walks, server_walks}
-use Rattle.adlb_threads.proofs.Journals.{can_merge, next_at, under_map}
+use Rattle.adlb_threads.proofs.Endings.{are_clear, finals, own_runs, rank_desk, rank_walks, server_desk, server_walks}
+use Rattle.adlb_threads.proofs.Journals.{can_merge, next_at}
 use Rattle.adlb_threads.proofs.Troubles.{IsLateOf, late_limit, whose_late}
 use Rattle.adlb_threads.proofs.OwnRuns.{client_same, pool_same}
-
--- Where a desk is.
-
-in_first : {T : Type 0} (xs ys : List T) (k : ℕ) (t : T) → slice_get xs k ≡ Some t → slice_get (xs ++ ys) k ≡ Some t
-in_first [] ys zero t at = absurd cc
-in_first [] ys (suc k) t at = absurd cc
-in_first (x ∷ xs) ys zero t at = at
-in_first (x ∷ xs) ys (suc k) t at = in_first xs ys k t at
-
-pub in_second : {T : Type 0} (xs ys : List T) (k place : ℕ) (t : T) → place ≡ length xs + k → slice_get ys k ≡ Some t
-    → slice_get (xs ++ ys) place ≡ Some t
-in_second [] ys k place t is at = ap (slice_get ys) (omega (arith, is)) ∙ at
-in_second (x ∷ xs) ys k zero t is at = absurd (omega (arith, is))
-in_second (x ∷ xs) ys k (suc place) t is at = in_second xs ys k place t (omega (arith, is)) at
 
 -- one letter of an actor is what was received of it
 pub its_own : (from : ℕ) (letter : Letter) → letters_of from (record { from = from; letter = letter } ∷ []) ≡ letter ∷ []
@@ -83,23 +67,9 @@ module _ {O : Type 0} (config : Config) (ends : List (Ended O)) (served : List S
       let next = next_at config desks last clear received own from me from_within within e letter later at plain came in
       inr (from, letter, next.0, from_within, next.1, is)
 
-  pub server_desk : (k : ℕ) (e : Served) → slice_get served k ≡ Some e → slice_get desks (config.ranks + k) ≡ Some e.desk
-  server_desk k e at =
-      let mine : List DeskModel = map (λ (e : Ended O). e.desk) ends in
-      let theirs : List DeskModel = map (λ (e : Served). e.desk) served in
-      let long : length mine ≡ config.ranks = length-map ends (λ e. e.desk) ∙ ranks.all in
-      in_first (mine ++ theirs) (desk ∷ []) (config.ranks + k) e.desk
-      (in_second mine theirs k (config.ranks + k) e.desk (omega (arith, long)) (under_map (λ (e : Served). e.desk) served k e at))
-
-  pub rank_desk : (k : ℕ) (e : Ended O) → slice_get ends k ≡ Some e → slice_get desks k ≡ Some e.desk
-  rank_desk k e at =
-      let mine : List DeskModel = map (λ (e : Ended O). e.desk) ends in
-      let theirs : List DeskModel = map (λ (e : Served). e.desk) served in
-      in_first (mine ++ theirs) (desk ∷ []) k e.desk (in_first mine theirs k e.desk (under_map (λ (e : Ended O). e.desk) ends k e at))
-
   -- A server's.
 
-  pub server_within : (k : ℕ) (e : Served) → slice_get served k ≡ Some e → is_within config (by.Server (server_named k)) ≡ true
+  server_within : (k : ℕ) (e : Served) → slice_get served k ≡ Some e → is_within config (by.Server (server_named k)) ≡ true
   server_within k e at = lt-ltb k config.servers (let low = slice_get_within served k e at in omega (arith, low, servers.all))
 
   broken_bears : (k : ℕ) (e : Served) (s : ServerModel) (stamp : ℕ) → slice_get served k ≡ Some e → s ≡ last.pool (server_named k)
@@ -114,7 +84,7 @@ module _ {O : Type 0} (config : Config) (ends : List (Ended O)) (served : List S
       comes_next (server_named k) e.desk s (TooLong stamp) e.own was
       ∙ ap (λ (c : Config). got c x.from (e.desk).events ++ x.letter ∷ letters_of x.from was.later) same_config in
       by_letter step.0 (by.Server (server_named k)) step.1 (server_within k e at) e.desk x.letter (letters_of x.from was.later) stamp
-      (server_desk k e at) (served_plain s step.0 x.letter step.3)
+      (server_desk config ends served desk ranks servers number k e at) (served_plain s step.0 x.letter step.3)
       (subst (λ (n : ℕ). letters_of n (e.desk).got ≡ got config n (e.desk).events ++ x.letter ∷ letters_of x.from was.later)
       (sym step.2) came)
       (breaks.stamp own_step stamp refl ∙ ap (λ (t : ServerModel). stamp_after t.clock x.letter) same)
@@ -132,7 +102,7 @@ module _ {O : Type 0} (config : Config) (ends : List (Ended O)) (served : List S
 
   -- A rank's.
 
-  pub rank_within : (k : ℕ) (e : Ended O) → slice_get ends k ≡ Some e → is_within config (by.Rank (rank_named k)) ≡ true
+  rank_within : (k : ℕ) (e : Ended O) → slice_get ends k ≡ Some e → is_within config (by.Rank (rank_named k)) ≡ true
   rank_within k e at = lt-ltb k config.ranks (let low = slice_get_within ends k e at in omega (arith, low, ranks.all))
 
   late_bears : (k : ℕ) (e : Ended O) (s : ClientModel) (stamp : ℕ) → slice_get ends k ≡ Some e → s ≡ last.client (rank_named k)
@@ -141,7 +111,8 @@ module _ {O : Type 0} (config : Config) (ends : List (Ended O)) (served : List S
   late_bears k e s stamp at same (inr came) =
       let server : Actor = by.Server came.server in
       let within : is_within config server ≡ true = lt-ltb (came.server).0 config.servers came.within in
-      by_letter server (by.Rank (rank_named k)) within (rank_within k e at) e.desk came.letter [] stamp (rank_desk k e at)
+      by_letter server (by.Rank (rank_named k)) within (rank_within k e at) e.desk came.letter [] stamp
+      (rank_desk config ends served desk ranks servers number k e at)
       (heard_plain s came.server came.letter came.expected)
       (came.receives (place_of config server) (place_below config server within)
       ∙ ap (λ l. got config (place_of config server) (e.desk).events ++ l) (its_own (place_of config server) came.letter))

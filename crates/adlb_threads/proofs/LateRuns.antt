@@ -1,5 +1,5 @@
 -- A late end of ranks is a late run of their programs.
-use Rattle.std.proofs.Common.{◌≡◌, ◌⊎◌, inl, inr, ◌<◌, ℕ, List, length, Option, None, Some, slice_get, subst, ◌∙◌, arith}
+use Rattle.std.proofs.Common.{◌≡◌, ◌⊎◌, inl, inr, ℕ, List, length, Option, None, Some, slice_get, subst, ◌∙◌, arith}
 use Rattle.std.proofs.lemmas.Option.{slice_get_within}
 use Rattle.adlb_unit.specs.declared.configs.Config.{Config}
 use Rattle.adlb_unit.specs.declared.names.Rank.{Rank}
@@ -37,7 +37,8 @@ is_late_run config so_far follows programs ends stamp count long kept is = recor
       let e = there ends rank.0 (omega (arith, low, count, long)) in
       let begun = (kept rank.0 p e.0 at e.1).begun in
       let run = begun.run in
-      let same = client_same config (start config rank) (e.0).desk.events run.last (is.finals.client rank) run.walks (is.own rank e.0 e.1) in
+      let same = client_same config (start config rank) (e.0).desk.events run.last (is.finals.client rank) run.walks
+      (is.own rank e.0 e.1) in
       subst (HasCalled (so_far p rank)) same (record {
         before = begun.before;
         begun = begun.begun;

@@ -7,7 +7,8 @@ use Rattle.thread_client.specs.Jobs.{Ended}
 use Rattle.thread_server.specs.Jobs.{Ended as Served}
 use Rattle.thread_client.specs.declared.faults.ActorFault.{ActorFault}
 use Rattle.thread_client.specs.declared.faults.ActorFault.TheVariants.{Memory, TooLong, Unexpected}
-use Rattle.adlb_threads.specs.inside.{AreExpecting, after_all, all_met, met_with}
+use Rattle.adlb_threads.specs.Ends.{AreExpecting}
+use Rattle.adlb_threads.specs.inside.{after_all, all_met, met_with}
 use Rattle.adlb_threads.proofs.Kept.{none_there}
 use Rattle.adlb_threads.proofs.Journals.{of_map, under_map}
 
