@@ -7,52 +7,69 @@ use flow_app::FlowWhy;
 use ledger_command::CheckFault;
 use made_jobs::MadeFault;
 use run_command::Fault;
-use thiserror::Error;
+use std::error::Error;
+use std::fmt;
 use tour_search::CitiesWhy;
 
 /// Why a line of an input is refused. Its text is what the user is told.
-#[derive(Clone, Copy, Debug, Error)]
+#[derive(Clone, Copy, Debug)]
 pub enum LineWhy {
     /// It has more than 2^20 bytes.
-    #[error("long")]
     Long,
     /// It is a puzzle whose text has not 16, 81 or 256 bytes but `got`.
-    #[error("length")]
     Length { got: u64 },
     /// It is a puzzle with a byte that is no sign of a cell.
-    #[error("character")]
     Character,
     /// It is an item, and no batch is going on.
-    #[error("item")]
     Item,
     /// It is an item that is not of its form.
-    #[error("number")]
     Number,
     /// It does not begin with one of the words.
-    #[error("word")]
     Word,
     /// It is not what is due in the text of a ledger.
-    #[error("entry")]
     Entry,
     /// It is the first line, and does not say how many cities there are; or there is no first line.
-    #[error("cities")]
     Cities,
     /// It is not a row of costs, or that row is missing.
-    #[error("cost")]
     Cost,
     /// It follows the rows of costs.
-    #[error("extra")]
     Extra,
     /// It is no definition of a flow.
-    #[error("form")]
     Form,
     /// It defines a name that was defined before.
-    #[error("twice")]
     Twice,
     /// It is definition 100,001 of a flow.
-    #[error("many")]
     Many,
 }
+
+impl LineWhy {
+    // The word for it.
+    fn word(&self) -> &'static str {
+        match self {
+            LineWhy::Long => "long",
+            LineWhy::Length { .. } => "length",
+            LineWhy::Character => "character",
+            LineWhy::Item => "item",
+            LineWhy::Number => "number",
+            LineWhy::Word => "word",
+            LineWhy::Entry => "entry",
+            LineWhy::Cities => "cities",
+            LineWhy::Cost => "cost",
+            LineWhy::Extra => "extra",
+            LineWhy::Form => "form",
+            LineWhy::Twice => "twice",
+            LineWhy::Many => "many",
+        }
+    }
+}
+
+impl fmt::Display for LineWhy {
+    fn fmt<W: fmt::Write>(&self, f: &mut fmt::Formatter<W>) -> fmt::Result {
+        write!(f, "{}", self.word())
+    }
+}
+
+impl Error for LineWhy {}
 
 /// Why a line of some kind of input is refused.
 pub trait Reason {
@@ -114,7 +131,7 @@ impl Reason for FlowWhy {
 }
 
 /// Why a command did not write its whole output. Its text is what the user is told.
-#[derive(Clone, Copy, Debug, Error)]
+#[derive(Clone, Copy, Debug, thiserror::Error)]
 pub enum RunFault {
     /// A line of the input is refused: the first such line, from 1, and why.
     #[error("line {line}: {why}")]

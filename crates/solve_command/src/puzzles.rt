@@ -54,13 +54,13 @@ impl PuzzleJobs {
 }
 
 /// A run over the puzzles and batches of an input: its settings, and what is wanted of it.
-#[derive(Clone, Copy)]
+#[derive(Drop)]
 pub struct Puzzles<E> {
     pub settings: Settings,
     pub wanted: Wanted<E>,
 }
 
-impl<E: Tail + Copy> Command for Puzzles<E> {
+impl<E: Tail> Command for Puzzles<E> {
     type Asked = PuzzleJobs;
 
     type Why = LineWhy;
@@ -97,7 +97,7 @@ impl<E: Tail + Copy> Command for Puzzles<E> {
         asked: &PuzzleJobs,
         kept: &Kept<Outcome>,
     ) -> Result<Vec<u8>, NoMemory> {
-        tell_run(alloc, self.settings, self.wanted, asked, kept)
+        tell_run(alloc, self.settings, &self.wanted, asked, kept)
     }
 
     ghost takes = { λ puzzles jobs ranks many h.

@@ -30,7 +30,7 @@ pub fn solve<E, S, K, T, G>(
     gate: G,
 ) -> Ended<LineWhy, Outcome>
 where
-    E: Tail + Copy,
+    E: Tail + Drop,
     S: Source,
     K: Sink,
     T: Spawner,

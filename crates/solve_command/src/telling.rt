@@ -16,15 +16,15 @@ use std::alloc::Global;
 
 /// The text that is wanted of a run with these settings over these jobs, of which this is kept. All work of the run is done. Its only
 /// error is `NoMemory`.
-pub(crate) fn tell_run<E: Tail + Copy>(
+pub(crate) fn tell_run<E: Tail>(
     alloc: Global,
     settings: Settings,
-    wanted: Wanted<E>,
+    wanted: &Wanted<E>,
     asked: &PuzzleJobs,
     kept: &Kept<Outcome>,
 ) -> Result<Vec<u8>, NoMemory>
     requires { HasRun (λ ranks. ArePrograms settings) FollowsPuzzles asked.now kept.now.report }
-    ensures told { IfOk result (λ text. IsTold E.tail settings wanted asked.now kept.now.report text.items) }
+    ensures told { IfOk result (λ text. IsTold E.tail settings wanted.now asked.now kept.now.report text.items) }
     ensures worked_up { IfOk result (λ text. IsWorkedUp kept.now.report) }
 {
     text_of(alloc, wanted, asked.jobs(), kept.report())

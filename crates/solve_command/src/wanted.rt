@@ -14,7 +14,7 @@ use run_command::Report;
 use std::alloc::Global;
 
 /// What is written of a run.
-#[derive(Clone, Copy)]
+#[derive(Drop)]
 pub enum Wanted<E> {
     /// The report of its jobs, and then this.
     Report(E),
@@ -23,32 +23,32 @@ pub enum Wanted<E> {
 }
 
 /// The text that is wanted of a run over these jobs (`IsTold`). Its only error is `NoMemory`.
-pub fn text_of<E: Tail + Copy>(
+pub fn text_of<E: Tail>(
     alloc: Global,
-    wanted: Wanted<E>,
+    wanted: &Wanted<E>,
     jobs: &Jobs,
     report: &Report<Outcome>,
 ) -> Result<Vec<u8>, NoMemory>
     requires room { (k : ℕ) → made_in k report.now.outcomes < 2 ^ 128 }
     ensures { (settings : Settings) → AreWhole settings.budget settings.grain jobs.now report.now.outcomes →
-        IfOk result (λ text. IsTold E.tail settings wanted jobs.now report.now text.items) }
+        IfOk result (λ text. IsTold E.tail settings wanted.now jobs.now report.now text.items) }
 {
     match wanted {
         Wanted::Report(tail) => report_of(alloc, tail, jobs, report),
-        Wanted::Summary { count, seed } => summary_of(alloc, count, seed, jobs, report),
+        Wanted::Summary { count, seed } => summary_of(alloc, *count, *seed, jobs, report),
     }
 }
 
 // The report, and then this. Its only error is `NoMemory`.
-fn report_of<E: Tail + Copy>(
+fn report_of<E: Tail>(
     alloc: Global,
-    tail: E,
+    tail: &E,
     jobs: &Jobs,
     report: &Report<Outcome>,
 ) -> Result<Vec<u8>, NoMemory>
     requires room { (k : ℕ) → made_in k report.now.outcomes < 2 ^ 128 }
     ensures { (settings : Settings) → AreWhole settings.budget settings.grain jobs.now report.now.outcomes →
-        IfOk result (λ text. IsReported settings (E.tail tail) jobs.now report.now text.items) }
+        IfOk result (λ text. IsReported settings (E.tail tail.now) jobs.now report.now text.items) }
 {
     let mut text = render(alloc, jobs, &report.outcomes)?;
     tail.append(alloc, &mut text, report)?;

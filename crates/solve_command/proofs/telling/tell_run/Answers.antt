@@ -17,7 +17,7 @@ text_of-requires g c = record {
 pub returns-clause-told : goal.returns-clause-told
 returns-clause-told g c =
     let settings = c.args.settings in
-    let wanted = c.args.wanted in
+    let wanted = c.args.wanted.now in
     let r : Reported Outcome = c.args.kept.now.report in
     let whole = run_whole settings c.args.asked.now r c.requires c.jobs.ensures.grids in
     subst (λ (l : List Job). IfOk c.text_of.result (λ text. IsTold g.E.Tail.tail settings wanted l r text.items)) c.jobs.ensures.jobs
