@@ -314,7 +314,7 @@ fn check(
     limit: u64,
     acts: &[Act],
     calls: usize,
-    ledger: &[&str],
+    ledger: &str,
     left: &[Left],
 ) -> Result<(), Fail>
     requires least { 64 ≤ limit }
@@ -330,7 +330,7 @@ fn has_ended(
     limit: u64,
     acts: &[Act],
     calls: usize,
-    ledger: &[&str],
+    ledger: &str,
     left: &[Left],
 ) -> Result<bool, Fail>
     requires least { 64 ≤ limit }
@@ -388,14 +388,15 @@ fn begins(entry: &Entry) -> bool {
     }
 }
 
-// These are the entries, as they are shown.
-fn has_lines(alloc: Global, entries: &[Entry], ledger: &[&str]) -> Result<bool, Fail> {
-    for (entry, wanted) in entries.iter().zip(ledger) {
-        if !is_line(alloc, entry, wanted)? {
+// These are the entries, as they are shown, one on each line.
+fn has_lines(alloc: Global, entries: &[Entry], ledger: &str) -> Result<bool, Fail> {
+    let mut lines = ledger.lines();
+    for entry in entries {
+        if !is_line(alloc, entry, lines.next().unwrap_or(""))? {
             return Ok(false);
         }
     }
-    Ok(entries.len() == ledger.len())
+    Ok(lines.next().is_none())
 }
 
 fn is_line(alloc: Global, entry: &Entry, wanted: &str) -> Result<bool, Fail> {
@@ -483,21 +484,20 @@ fn units_are_fetched_in_order(rt: HostRuntime) -> Result<(), Fail> {
         Act::Work("", b'a', 1),
         Act::Work("", b'b', 1),
     ];
-    const LEDGER: &[&str] = &[
-        "Putting 0 0: type 1, 1 bytes, Some(97)",
-        "Accepted { server: Server(0), id: UnitId { rank: Rank(0), number: 0 } }",
-        "Putting 0 1: type 1, 1 bytes, Some(98)",
-        "Accepted { server: Server(0), id: UnitId { rank: Rank(0), number: 1 } }",
-        "Asked 0 2",
-        "Granted { server: Server(0), rank: Rank(0), call: 2, id: UnitId { rank: Rank(0), number: 0 } }",
-        "Fetching { rank: Rank(0), call: 3, id: UnitId { rank: Rank(0), number: 0 } }",
-        "Fetched { server: Server(0), rank: Rank(0), id: UnitId { rank: Rank(0), number: 0 } }",
-        "Asked 0 4",
-        "Granted { server: Server(0), rank: Rank(0), call: 4, id: UnitId { rank: Rank(0), number: 1 } }",
-        "Fetching { rank: Rank(0), call: 5, id: UnitId { rank: Rank(0), number: 1 } }",
-        "Fetched { server: Server(0), rank: Rank(0), id: UnitId { rank: Rank(0), number: 1 } }",
-        "Finished { rank: Rank(0), call: 6 }",
-    ];
+    const LEDGER: &str = "\
+        Putting 0 0: type 1, 1 bytes, Some(97)\n\
+        Accepted { server: Server(0), id: UnitId { rank: Rank(0), number: 0 } }\n\
+        Putting 0 1: type 1, 1 bytes, Some(98)\n\
+        Accepted { server: Server(0), id: UnitId { rank: Rank(0), number: 1 } }\n\
+        Asked 0 2\n\
+        Granted { server: Server(0), rank: Rank(0), call: 2, id: UnitId { rank: Rank(0), number: 0 } }\n\
+        Fetching { rank: Rank(0), call: 3, id: UnitId { rank: Rank(0), number: 0 } }\n\
+        Fetched { server: Server(0), rank: Rank(0), id: UnitId { rank: Rank(0), number: 0 } }\n\
+        Asked 0 4\n\
+        Granted { server: Server(0), rank: Rank(0), call: 4, id: UnitId { rank: Rank(0), number: 1 } }\n\
+        Fetching { rank: Rank(0), call: 5, id: UnitId { rank: Rank(0), number: 1 } }\n\
+        Fetched { server: Server(0), rank: Rank(0), id: UnitId { rank: Rank(0), number: 1 } }\n\
+        Finished { rank: Rank(0), call: 6 }";
     check(&rt, rt.alloc(), 64, ACTS, 7, LEDGER, &[])
 }
 
@@ -509,20 +509,19 @@ fn what_is_over_the_limit_is_rejected(rt: HostRuntime) -> Result<(), Fail> {
         Act::Over(EndFault::Exhausted),
         Act::Over(EndFault::Exhausted),
     ];
-    const LEDGER: &[&str] = &[
-        "Putting 0 0: type 1, 93 bytes, Some(0)",
-        "Refused { server: Server(0), id: UnitId { rank: Rank(0), number: 0 }, used: 0 }",
-        "Rejected { rank: Rank(0), call: 0 }",
-        "Putting 0 1: type 1, 85 bytes, Some(0)",
-        "Refused { server: Server(0), id: UnitId { rank: Rank(0), number: 1 }, used: 0 }",
-        "Rejected { rank: Rank(0), call: 1 }",
-        "Asked 0 2",
-        "Exhausted",
-        "Over { rank: Rank(0), call: 2, end: Exhausted }",
-        "Asked 0 3",
-        "Over { rank: Rank(0), call: 3, end: Exhausted }",
-        "Finished { rank: Rank(0), call: 4 }",
-    ];
+    const LEDGER: &str = "\
+        Putting 0 0: type 1, 93 bytes, Some(0)\n\
+        Refused { server: Server(0), id: UnitId { rank: Rank(0), number: 0 }, used: 0 }\n\
+        Rejected { rank: Rank(0), call: 0 }\n\
+        Putting 0 1: type 1, 85 bytes, Some(0)\n\
+        Refused { server: Server(0), id: UnitId { rank: Rank(0), number: 1 }, used: 0 }\n\
+        Rejected { rank: Rank(0), call: 1 }\n\
+        Asked 0 2\n\
+        Exhausted\n\
+        Over { rank: Rank(0), call: 2, end: Exhausted }\n\
+        Asked 0 3\n\
+        Over { rank: Rank(0), call: 3, end: Exhausted }\n\
+        Finished { rank: Rank(0), call: 4 }";
     check(&rt, rt.alloc(), 64, ACTS, 5, LEDGER, &[])
 }
 
@@ -534,18 +533,17 @@ fn units_that_are_not_fetched_are_left(rt: HostRuntime) -> Result<(), Fail> {
         Act::Put(2, b'b', 4),
         Act::Leave,
     ];
-    const LEDGER: &[&str] = &[
-        "Putting 0 0: type 2, 60 bytes, Some(97)",
-        "Accepted { server: Server(0), id: UnitId { rank: Rank(0), number: 0 } }",
-        "Putting 0 1: type 1, 5 bytes, Some(0)",
-        "Refused { server: Server(0), id: UnitId { rank: Rank(0), number: 1 }, used: 60 }",
-        "Rejected { rank: Rank(0), call: 1 }",
-        "Putting 0 2: type 2, 4 bytes, Some(98)",
-        "Accepted { server: Server(0), id: UnitId { rank: Rank(0), number: 2 } }",
-        "Asked 0 3",
-        "Granted { server: Server(0), rank: Rank(0), call: 3, id: UnitId { rank: Rank(0), number: 0 } }",
-        "Finished { rank: Rank(0), call: 4 }",
-    ];
+    const LEDGER: &str = "\
+        Putting 0 0: type 2, 60 bytes, Some(97)\n\
+        Accepted { server: Server(0), id: UnitId { rank: Rank(0), number: 0 } }\n\
+        Putting 0 1: type 1, 5 bytes, Some(0)\n\
+        Refused { server: Server(0), id: UnitId { rank: Rank(0), number: 1 }, used: 60 }\n\
+        Rejected { rank: Rank(0), call: 1 }\n\
+        Putting 0 2: type 2, 4 bytes, Some(98)\n\
+        Accepted { server: Server(0), id: UnitId { rank: Rank(0), number: 2 } }\n\
+        Asked 0 3\n\
+        Granted { server: Server(0), rank: Rank(0), call: 3, id: UnitId { rank: Rank(0), number: 0 } }\n\
+        Finished { rank: Rank(0), call: 4 }";
     const LEFT: &[Left] = &[(0, Some(Rank(0))), (2, None)];
     check(&rt, rt.alloc(), 64, ACTS, 5, LEDGER, LEFT)
 }
@@ -567,44 +565,42 @@ fn free_units_of_a_type_are_counted_by_their_priority(rt: HostRuntime) -> Result
         Act::Over(EndFault::Exhausted),
         Act::Count(1, 0, None, 0),
     ];
-    const LEDGER: &[&str] = &[
-        "Putting 0 0: type 1, 1 bytes, Some(97)",
-        "Accepted { server: Server(0), id: UnitId { rank: Rank(0), number: 0 } }",
-        "Putting 0 1: type 1, 1 bytes, Some(97)",
-        "Accepted { server: Server(0), id: UnitId { rank: Rank(0), number: 1 } }",
-        "Counting { rank: Rank(0), call: 2, kind: WorkType(1) }",
-        "Counted { server: Server(0), rank: Rank(0), call: 2, info: Info { free: 2, top: Some(7), at_top: 1 } }",
-        "Counting { rank: Rank(0), call: 3, kind: WorkType(2) }",
-        "Counted { server: Server(0), rank: Rank(0), call: 3, info: Info { free: 0, top: None, at_top: 0 } }",
-        "Asked 0 4",
-        "Granted { server: Server(0), rank: Rank(0), call: 4, id: UnitId { rank: Rank(0), number: 1 } }",
-        "Fetching { rank: Rank(0), call: 5, id: UnitId { rank: Rank(0), number: 1 } }",
-        "Fetched { server: Server(0), rank: Rank(0), id: UnitId { rank: Rank(0), number: 1 } }",
-        "Counting { rank: Rank(0), call: 6, kind: WorkType(1) }",
-        "Counted { server: Server(0), rank: Rank(0), call: 6, info: Info { free: 1, top: Some(3), at_top: 1 } }",
-        "Asked 0 7",
-        "Granted { server: Server(0), rank: Rank(0), call: 7, id: UnitId { rank: Rank(0), number: 0 } }",
-        "Counting { rank: Rank(0), call: 8, kind: WorkType(1) }",
-        "Counted { server: Server(0), rank: Rank(0), call: 8, info: Info { free: 0, top: None, at_top: 0 } }",
-        "Asked 0 9",
-        "Exhausted",
-        "Over { rank: Rank(0), call: 9, end: Exhausted }",
-        "Counting { rank: Rank(0), call: 10, kind: WorkType(1) }",
-        "Counted { server: Server(0), rank: Rank(0), call: 10, info: Info { free: 0, top: None, at_top: 0 } }",
-        "Finished { rank: Rank(0), call: 11 }",
-    ];
+    const LEDGER: &str = "\
+        Putting 0 0: type 1, 1 bytes, Some(97)\n\
+        Accepted { server: Server(0), id: UnitId { rank: Rank(0), number: 0 } }\n\
+        Putting 0 1: type 1, 1 bytes, Some(97)\n\
+        Accepted { server: Server(0), id: UnitId { rank: Rank(0), number: 1 } }\n\
+        Counting { rank: Rank(0), call: 2, kind: WorkType(1) }\n\
+        Counted { server: Server(0), rank: Rank(0), call: 2, info: Info { free: 2, top: Some(7), at_top: 1 } }\n\
+        Counting { rank: Rank(0), call: 3, kind: WorkType(2) }\n\
+        Counted { server: Server(0), rank: Rank(0), call: 3, info: Info { free: 0, top: None, at_top: 0 } }\n\
+        Asked 0 4\n\
+        Granted { server: Server(0), rank: Rank(0), call: 4, id: UnitId { rank: Rank(0), number: 1 } }\n\
+        Fetching { rank: Rank(0), call: 5, id: UnitId { rank: Rank(0), number: 1 } }\n\
+        Fetched { server: Server(0), rank: Rank(0), id: UnitId { rank: Rank(0), number: 1 } }\n\
+        Counting { rank: Rank(0), call: 6, kind: WorkType(1) }\n\
+        Counted { server: Server(0), rank: Rank(0), call: 6, info: Info { free: 1, top: Some(3), at_top: 1 } }\n\
+        Asked 0 7\n\
+        Granted { server: Server(0), rank: Rank(0), call: 7, id: UnitId { rank: Rank(0), number: 0 } }\n\
+        Counting { rank: Rank(0), call: 8, kind: WorkType(1) }\n\
+        Counted { server: Server(0), rank: Rank(0), call: 8, info: Info { free: 0, top: None, at_top: 0 } }\n\
+        Asked 0 9\n\
+        Exhausted\n\
+        Over { rank: Rank(0), call: 9, end: Exhausted }\n\
+        Counting { rank: Rank(0), call: 10, kind: WorkType(1) }\n\
+        Counted { server: Server(0), rank: Rank(0), call: 10, info: Info { free: 0, top: None, at_top: 0 } }\n\
+        Finished { rank: Rank(0), call: 11 }";
     const LEFT: &[Left] = &[(0, Some(Rank(0)))];
     check(&rt, rt.alloc(), 64, ACTS, 12, LEDGER, LEFT)
 }
 
 #[test]
 fn a_try_where_nothing_is_looks_once(rt: HostRuntime) -> Result<(), Fail> {
-    const LEDGER: &[&str] = &[
-        "Tried 0 0",
-        "Looked { server: Server(0), rank: Rank(0), call: 0 }",
-        "NoCurrent { rank: Rank(0), call: 0 }",
-        "Finished { rank: Rank(0), call: 1 }",
-    ];
+    const LEDGER: &str = "\
+        Tried 0 0\n\
+        Looked { server: Server(0), rank: Rank(0), call: 0 }\n\
+        NoCurrent { rank: Rank(0), call: 0 }\n\
+        Finished { rank: Rank(0), call: 1 }";
     check(&rt, rt.alloc(), 64, &[Act::TryInVain], 2, LEDGER, &[])
 }
 
@@ -619,21 +615,20 @@ fn a_try_is_granted_what_is_free(rt: HostRuntime) -> Result<(), Fail> {
         Act::Over(EndFault::Exhausted),
         Act::TryOver(TryFault::Exhausted),
     ];
-    const LEDGER: &[&str] = &[
-        "Putting 0 0: type 1, 1 bytes, Some(97)",
-        "Accepted { server: Server(0), id: UnitId { rank: Rank(0), number: 0 } }",
-        "Tried 0 1",
-        "Granted { server: Server(0), rank: Rank(0), call: 1, id: UnitId { rank: Rank(0), number: 0 } }",
-        "Tried 0 2",
-        "Looked { server: Server(0), rank: Rank(0), call: 2 }",
-        "NoCurrent { rank: Rank(0), call: 2 }",
-        "Asked 0 3",
-        "Exhausted",
-        "Over { rank: Rank(0), call: 3, end: Exhausted }",
-        "Tried 0 4",
-        "Over { rank: Rank(0), call: 4, end: Exhausted }",
-        "Finished { rank: Rank(0), call: 5 }",
-    ];
+    const LEDGER: &str = "\
+        Putting 0 0: type 1, 1 bytes, Some(97)\n\
+        Accepted { server: Server(0), id: UnitId { rank: Rank(0), number: 0 } }\n\
+        Tried 0 1\n\
+        Granted { server: Server(0), rank: Rank(0), call: 1, id: UnitId { rank: Rank(0), number: 0 } }\n\
+        Tried 0 2\n\
+        Looked { server: Server(0), rank: Rank(0), call: 2 }\n\
+        NoCurrent { rank: Rank(0), call: 2 }\n\
+        Asked 0 3\n\
+        Exhausted\n\
+        Over { rank: Rank(0), call: 3, end: Exhausted }\n\
+        Tried 0 4\n\
+        Over { rank: Rank(0), call: 4, end: Exhausted }\n\
+        Finished { rank: Rank(0), call: 5 }";
     const LEFT: &[Left] = &[(0, Some(Rank(0)))];
     check(&rt, rt.alloc(), 64, ACTS, 6, LEDGER, LEFT)
 }
@@ -649,44 +644,42 @@ fn units_of_a_batch_share_its_common_part(rt: HostRuntime) -> Result<(), Fail> {
         Act::Work("xy", b'a', 1),
         Act::Work("xy", b'b', 1),
     ];
-    const LEDGER: &[&str] = &[
-        "Keeping 0 0: 2 bytes, Some(120)",
-        "Kept { server: Server(0), batch: BatchId { rank: Rank(0), number: 0 } }",
-        "Putting 0 1: type 1, 1 bytes, Some(97)",
-        "Accepted { server: Server(0), id: UnitId { rank: Rank(0), number: 1 } }",
-        "Putting 0 2: type 1, 1 bytes, Some(98)",
-        "Accepted { server: Server(0), id: UnitId { rank: Rank(0), number: 2 } }",
-        "Counting { rank: Rank(0), call: 3, kind: WorkType(1) }",
-        "Counted { server: Server(0), rank: Rank(0), call: 3, info: Info { free: 2, top: Some(0), at_top: 2 } }",
-        "Closing { rank: Rank(0), call: 4 }",
-        "Closed { server: Server(0), batch: BatchId { rank: Rank(0), number: 0 } }",
-        "Asked 0 5",
-        "Granted { server: Server(0), rank: Rank(0), call: 5, id: UnitId { rank: Rank(0), number: 1 } }",
-        "Fetching { rank: Rank(0), call: 6, id: UnitId { rank: Rank(0), number: 1 } }",
-        "Fetched { server: Server(0), rank: Rank(0), id: UnitId { rank: Rank(0), number: 1 } }",
-        "CommonFetched { server: Server(0), rank: Rank(0), batch: BatchId { rank: Rank(0), number: 0 } }",
-        "Asked 0 7",
-        "Granted { server: Server(0), rank: Rank(0), call: 7, id: UnitId { rank: Rank(0), number: 2 } }",
-        "Fetching { rank: Rank(0), call: 8, id: UnitId { rank: Rank(0), number: 2 } }",
-        "Fetched { server: Server(0), rank: Rank(0), id: UnitId { rank: Rank(0), number: 2 } }",
-        "CommonFetched { server: Server(0), rank: Rank(0), batch: BatchId { rank: Rank(0), number: 0 } }",
-        "Freed { server: Server(0), batch: BatchId { rank: Rank(0), number: 0 } }",
-        "Finished { rank: Rank(0), call: 9 }",
-    ];
+    const LEDGER: &str = "\
+        Keeping 0 0: 2 bytes, Some(120)\n\
+        Kept { server: Server(0), batch: BatchId { rank: Rank(0), number: 0 } }\n\
+        Putting 0 1: type 1, 1 bytes, Some(97)\n\
+        Accepted { server: Server(0), id: UnitId { rank: Rank(0), number: 1 } }\n\
+        Putting 0 2: type 1, 1 bytes, Some(98)\n\
+        Accepted { server: Server(0), id: UnitId { rank: Rank(0), number: 2 } }\n\
+        Counting { rank: Rank(0), call: 3, kind: WorkType(1) }\n\
+        Counted { server: Server(0), rank: Rank(0), call: 3, info: Info { free: 2, top: Some(0), at_top: 2 } }\n\
+        Closing { rank: Rank(0), call: 4 }\n\
+        Closed { server: Server(0), batch: BatchId { rank: Rank(0), number: 0 } }\n\
+        Asked 0 5\n\
+        Granted { server: Server(0), rank: Rank(0), call: 5, id: UnitId { rank: Rank(0), number: 1 } }\n\
+        Fetching { rank: Rank(0), call: 6, id: UnitId { rank: Rank(0), number: 1 } }\n\
+        Fetched { server: Server(0), rank: Rank(0), id: UnitId { rank: Rank(0), number: 1 } }\n\
+        CommonFetched { server: Server(0), rank: Rank(0), batch: BatchId { rank: Rank(0), number: 0 } }\n\
+        Asked 0 7\n\
+        Granted { server: Server(0), rank: Rank(0), call: 7, id: UnitId { rank: Rank(0), number: 2 } }\n\
+        Fetching { rank: Rank(0), call: 8, id: UnitId { rank: Rank(0), number: 2 } }\n\
+        Fetched { server: Server(0), rank: Rank(0), id: UnitId { rank: Rank(0), number: 2 } }\n\
+        CommonFetched { server: Server(0), rank: Rank(0), batch: BatchId { rank: Rank(0), number: 0 } }\n\
+        Freed { server: Server(0), batch: BatchId { rank: Rank(0), number: 0 } }\n\
+        Finished { rank: Rank(0), call: 9 }";
     check(&rt, rt.alloc(), 64, ACTS, 10, LEDGER, &[])
 }
 
 #[test]
 fn the_part_of_a_batch_without_units_is_freed_at_its_end(rt: HostRuntime) -> Result<(), Fail> {
     const ACTS: &[Act] = &[Act::Begin, Act::End];
-    const LEDGER: &[&str] = &[
-        "Keeping 0 0: 2 bytes, Some(120)",
-        "Kept { server: Server(0), batch: BatchId { rank: Rank(0), number: 0 } }",
-        "Closing { rank: Rank(0), call: 1 }",
-        "Closed { server: Server(0), batch: BatchId { rank: Rank(0), number: 0 } }",
-        "Freed { server: Server(0), batch: BatchId { rank: Rank(0), number: 0 } }",
-        "Finished { rank: Rank(0), call: 2 }",
-    ];
+    const LEDGER: &str = "\
+        Keeping 0 0: 2 bytes, Some(120)\n\
+        Kept { server: Server(0), batch: BatchId { rank: Rank(0), number: 0 } }\n\
+        Closing { rank: Rank(0), call: 1 }\n\
+        Closed { server: Server(0), batch: BatchId { rank: Rank(0), number: 0 } }\n\
+        Freed { server: Server(0), batch: BatchId { rank: Rank(0), number: 0 } }\n\
+        Finished { rank: Rank(0), call: 2 }";
     check(&rt, rt.alloc(), 64, ACTS, 3, LEDGER, &[])
 }
 
@@ -697,18 +690,17 @@ fn a_common_part_over_the_limit_is_rejected(rt: HostRuntime) -> Result<(), Fail>
         Act::Put(1, b'a', 64),
         Act::Work("", b'a', 64),
     ];
-    const LEDGER: &[&str] = &[
-        "Keeping 0 0: 65 bytes, Some(0)",
-        "Refused { server: Server(0), id: UnitId { rank: Rank(0), number: 0 }, used: 0 }",
-        "Rejected { rank: Rank(0), call: 0 }",
-        "Putting 0 1: type 1, 64 bytes, Some(97)",
-        "Accepted { server: Server(0), id: UnitId { rank: Rank(0), number: 1 } }",
-        "Asked 0 2",
-        "Granted { server: Server(0), rank: Rank(0), call: 2, id: UnitId { rank: Rank(0), number: 1 } }",
-        "Fetching { rank: Rank(0), call: 3, id: UnitId { rank: Rank(0), number: 1 } }",
-        "Fetched { server: Server(0), rank: Rank(0), id: UnitId { rank: Rank(0), number: 1 } }",
-        "Finished { rank: Rank(0), call: 4 }",
-    ];
+    const LEDGER: &str = "\
+        Keeping 0 0: 65 bytes, Some(0)\n\
+        Refused { server: Server(0), id: UnitId { rank: Rank(0), number: 0 }, used: 0 }\n\
+        Rejected { rank: Rank(0), call: 0 }\n\
+        Putting 0 1: type 1, 64 bytes, Some(97)\n\
+        Accepted { server: Server(0), id: UnitId { rank: Rank(0), number: 1 } }\n\
+        Asked 0 2\n\
+        Granted { server: Server(0), rank: Rank(0), call: 2, id: UnitId { rank: Rank(0), number: 1 } }\n\
+        Fetching { rank: Rank(0), call: 3, id: UnitId { rank: Rank(0), number: 1 } }\n\
+        Fetched { server: Server(0), rank: Rank(0), id: UnitId { rank: Rank(0), number: 1 } }\n\
+        Finished { rank: Rank(0), call: 4 }";
     check(&rt, rt.alloc(), 64, ACTS, 5, LEDGER, &[])
 }
 
@@ -724,47 +716,45 @@ fn a_batch_ends_after_an_end_was_told(rt: HostRuntime) -> Result<(), Fail> {
         Act::BeginOver(PutFault::Exhausted),
         Act::Over(EndFault::Exhausted),
     ];
-    const LEDGER: &[&str] = &[
-        "Keeping 0 0: 2 bytes, Some(120)",
-        "Kept { server: Server(0), batch: BatchId { rank: Rank(0), number: 0 } }",
-        "Putting 0 1: type 1, 1 bytes, Some(97)",
-        "Accepted { server: Server(0), id: UnitId { rank: Rank(0), number: 1 } }",
-        "Asked 0 2",
-        "Granted { server: Server(0), rank: Rank(0), call: 2, id: UnitId { rank: Rank(0), number: 1 } }",
-        "Fetching { rank: Rank(0), call: 3, id: UnitId { rank: Rank(0), number: 1 } }",
-        "Fetched { server: Server(0), rank: Rank(0), id: UnitId { rank: Rank(0), number: 1 } }",
-        "CommonFetched { server: Server(0), rank: Rank(0), batch: BatchId { rank: Rank(0), number: 0 } }",
-        "Asked 0 4",
-        "Exhausted",
-        "Over { rank: Rank(0), call: 4, end: Exhausted }",
-        "Putting 0 5: type 1, 1 bytes, Some(0)",
-        "Over { rank: Rank(0), call: 5, end: Exhausted }",
-        "Closing { rank: Rank(0), call: 6 }",
-        "Closed { server: Server(0), batch: BatchId { rank: Rank(0), number: 0 } }",
-        "Freed { server: Server(0), batch: BatchId { rank: Rank(0), number: 0 } }",
-        "Keeping 0 7: 1 bytes, Some(0)",
-        "Over { rank: Rank(0), call: 7, end: Exhausted }",
-        "Asked 0 8",
-        "Over { rank: Rank(0), call: 8, end: Exhausted }",
-        "Finished { rank: Rank(0), call: 9 }",
-    ];
+    const LEDGER: &str = "\
+        Keeping 0 0: 2 bytes, Some(120)\n\
+        Kept { server: Server(0), batch: BatchId { rank: Rank(0), number: 0 } }\n\
+        Putting 0 1: type 1, 1 bytes, Some(97)\n\
+        Accepted { server: Server(0), id: UnitId { rank: Rank(0), number: 1 } }\n\
+        Asked 0 2\n\
+        Granted { server: Server(0), rank: Rank(0), call: 2, id: UnitId { rank: Rank(0), number: 1 } }\n\
+        Fetching { rank: Rank(0), call: 3, id: UnitId { rank: Rank(0), number: 1 } }\n\
+        Fetched { server: Server(0), rank: Rank(0), id: UnitId { rank: Rank(0), number: 1 } }\n\
+        CommonFetched { server: Server(0), rank: Rank(0), batch: BatchId { rank: Rank(0), number: 0 } }\n\
+        Asked 0 4\n\
+        Exhausted\n\
+        Over { rank: Rank(0), call: 4, end: Exhausted }\n\
+        Putting 0 5: type 1, 1 bytes, Some(0)\n\
+        Over { rank: Rank(0), call: 5, end: Exhausted }\n\
+        Closing { rank: Rank(0), call: 6 }\n\
+        Closed { server: Server(0), batch: BatchId { rank: Rank(0), number: 0 } }\n\
+        Freed { server: Server(0), batch: BatchId { rank: Rank(0), number: 0 } }\n\
+        Keeping 0 7: 1 bytes, Some(0)\n\
+        Over { rank: Rank(0), call: 7, end: Exhausted }\n\
+        Asked 0 8\n\
+        Over { rank: Rank(0), call: 8, end: Exhausted }\n\
+        Finished { rank: Rank(0), call: 9 }";
     check(&rt, rt.alloc(), 64, ACTS, 10, LEDGER, &[])
 }
 
 #[test]
 fn a_unit_that_is_left_keeps_its_common_part(rt: HostRuntime) -> Result<(), Fail> {
     const ACTS: &[Act] = &[Act::Begin, Act::Put(1, b'a', 1), Act::End, Act::Leave];
-    const LEDGER: &[&str] = &[
-        "Keeping 0 0: 2 bytes, Some(120)",
-        "Kept { server: Server(0), batch: BatchId { rank: Rank(0), number: 0 } }",
-        "Putting 0 1: type 1, 1 bytes, Some(97)",
-        "Accepted { server: Server(0), id: UnitId { rank: Rank(0), number: 1 } }",
-        "Closing { rank: Rank(0), call: 2 }",
-        "Closed { server: Server(0), batch: BatchId { rank: Rank(0), number: 0 } }",
-        "Asked 0 3",
-        "Granted { server: Server(0), rank: Rank(0), call: 3, id: UnitId { rank: Rank(0), number: 1 } }",
-        "Finished { rank: Rank(0), call: 4 }",
-    ];
+    const LEDGER: &str = "\
+        Keeping 0 0: 2 bytes, Some(120)\n\
+        Kept { server: Server(0), batch: BatchId { rank: Rank(0), number: 0 } }\n\
+        Putting 0 1: type 1, 1 bytes, Some(97)\n\
+        Accepted { server: Server(0), id: UnitId { rank: Rank(0), number: 1 } }\n\
+        Closing { rank: Rank(0), call: 2 }\n\
+        Closed { server: Server(0), batch: BatchId { rank: Rank(0), number: 0 } }\n\
+        Asked 0 3\n\
+        Granted { server: Server(0), rank: Rank(0), call: 3, id: UnitId { rank: Rank(0), number: 1 } }\n\
+        Finished { rank: Rank(0), call: 4 }";
     const LEFT: &[Left] = &[(1, Some(Rank(0)))];
     check(&rt, rt.alloc(), 64, ACTS, 5, LEDGER, LEFT)
 }
@@ -783,23 +773,22 @@ fn after_the_problem_is_done_no_call_gets_work(rt: HostRuntime) -> Result<(), Fa
         // It can be said again.
         Act::SetDone,
     ];
-    const LEDGER: &[&str] = &[
-        "Putting 0 0: type 1, 1 bytes, Some(97)",
-        "Accepted { server: Server(0), id: UnitId { rank: Rank(0), number: 0 } }",
-        "Done { rank: Rank(0), call: 1 }",
-        "Asked 0 2",
-        "Over { rank: Rank(0), call: 2, end: NoMoreWork }",
-        "Tried 0 3",
-        "Over { rank: Rank(0), call: 3, end: NoMoreWork }",
-        "Putting 0 4: type 1, 1 bytes, Some(0)",
-        "Over { rank: Rank(0), call: 4, end: NoMoreWork }",
-        "Keeping 0 5: 1 bytes, Some(0)",
-        "Over { rank: Rank(0), call: 5, end: NoMoreWork }",
-        "Counting { rank: Rank(0), call: 6, kind: WorkType(1) }",
-        "Counted { server: Server(0), rank: Rank(0), call: 6, info: Info { free: 1, top: Some(0), at_top: 1 } }",
-        "Done { rank: Rank(0), call: 7 }",
-        "Finished { rank: Rank(0), call: 8 }",
-    ];
+    const LEDGER: &str = "\
+        Putting 0 0: type 1, 1 bytes, Some(97)\n\
+        Accepted { server: Server(0), id: UnitId { rank: Rank(0), number: 0 } }\n\
+        Done { rank: Rank(0), call: 1 }\n\
+        Asked 0 2\n\
+        Over { rank: Rank(0), call: 2, end: NoMoreWork }\n\
+        Tried 0 3\n\
+        Over { rank: Rank(0), call: 3, end: NoMoreWork }\n\
+        Putting 0 4: type 1, 1 bytes, Some(0)\n\
+        Over { rank: Rank(0), call: 4, end: NoMoreWork }\n\
+        Keeping 0 5: 1 bytes, Some(0)\n\
+        Over { rank: Rank(0), call: 5, end: NoMoreWork }\n\
+        Counting { rank: Rank(0), call: 6, kind: WorkType(1) }\n\
+        Counted { server: Server(0), rank: Rank(0), call: 6, info: Info { free: 1, top: Some(0), at_top: 1 } }\n\
+        Done { rank: Rank(0), call: 7 }\n\
+        Finished { rank: Rank(0), call: 8 }";
     check(&rt, rt.alloc(), 64, ACTS, 9, LEDGER, &[(0, None)])
 }
 
@@ -812,17 +801,16 @@ fn a_batch_ends_after_the_problem_is_done(rt: HostRuntime) -> Result<(), Fail> {
         Act::PutOver(PutFault::NoMoreWork),
         Act::End,
     ];
-    const LEDGER: &[&str] = &[
-        "Keeping 0 0: 2 bytes, Some(120)",
-        "Kept { server: Server(0), batch: BatchId { rank: Rank(0), number: 0 } }",
-        "Putting 0 1: type 1, 1 bytes, Some(97)",
-        "Accepted { server: Server(0), id: UnitId { rank: Rank(0), number: 1 } }",
-        "Done { rank: Rank(0), call: 2 }",
-        "Putting 0 3: type 1, 1 bytes, Some(0)",
-        "Over { rank: Rank(0), call: 3, end: NoMoreWork }",
-        "Closing { rank: Rank(0), call: 4 }",
-        "Closed { server: Server(0), batch: BatchId { rank: Rank(0), number: 0 } }",
-        "Finished { rank: Rank(0), call: 5 }",
-    ];
+    const LEDGER: &str = "\
+        Keeping 0 0: 2 bytes, Some(120)\n\
+        Kept { server: Server(0), batch: BatchId { rank: Rank(0), number: 0 } }\n\
+        Putting 0 1: type 1, 1 bytes, Some(97)\n\
+        Accepted { server: Server(0), id: UnitId { rank: Rank(0), number: 1 } }\n\
+        Done { rank: Rank(0), call: 2 }\n\
+        Putting 0 3: type 1, 1 bytes, Some(0)\n\
+        Over { rank: Rank(0), call: 3, end: NoMoreWork }\n\
+        Closing { rank: Rank(0), call: 4 }\n\
+        Closed { server: Server(0), batch: BatchId { rank: Rank(0), number: 0 } }\n\
+        Finished { rank: Rank(0), call: 5 }";
     check(&rt, rt.alloc(), 64, ACTS, 6, LEDGER, &[(1, None)])
 }
