@@ -13,7 +13,8 @@ returns-clause-outcomes g c = ap (λ v. v.items) c.in_ok-gather_servers.ensures.
 pub returns-clause-desks : goal.returns-clause-desks
 returns-clause-desks g c =
     let a = c.args in
-    all_desks a.ended.items a.served.items a.desk _ _ _ c.in_ok-kept.ensures.desks c.in_ok-gather_servers.ensures.desks c.in-Ok.ensures.items
+    all_desks a.ended.items a.served.items a.desk _ _ _ c.in_ok-kept.ensures.desks c.in_ok-gather_servers.ensures.desks
+    c.in-Ok.ensures.items
 
 pub returns-clause-left : goal.returns-clause-left
 returns-clause-left g c =
