@@ -20,9 +20,13 @@ impl Draws {
         }
     }
 
+    /// One of all numbers.
+    pub fn word(&mut self) -> u32 {
+        self.generator.next_word()
+    }
+
     /// One of the numbers below this one, and 0 below 0.
     pub fn below(&mut self, count: u32) -> u32 {
-        let word: u32 = self.generator.next_word();
-        word % count.max(1)
+        self.word() % count.max(1)
     }
 }

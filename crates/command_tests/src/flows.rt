@@ -1,4 +1,9 @@
-//! Flows: worked rows, and refused lines.
+//! Flows: worked rows, and refused lines; what an input comes to where it is read alone; and drawn flows.
+
+mod drawn;
+mod large;
+mod random;
+mod texts;
 
 use crate::rows::{Row, Shows, show};
 use std::test::Fail;

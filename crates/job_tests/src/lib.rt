@@ -1,5 +1,5 @@
 //! Jobs by example: boards, jobs' text, the units that are made of them, and their report. Made inputs and jobs over
-//! bytes come next, and then the program of a rank over a link that has no other rank.
+//! bytes come next, and then the program of a rank over a link that has no other rank; and cities with their first tours.
 //!
 //! It holds tests alone, in a crate of their own so that what they test is not proved again with them.
 #![tactic(auto)]
@@ -16,5 +16,7 @@ mod puzzles;
 mod reports;
 #[cfg(test)]
 mod texts;
+#[cfg(test)]
+mod tours;
 #[cfg(test)]
 mod units;

@@ -1,6 +1,6 @@
 //! Flows of as many definitions as there may be: a chain in reverse order, the chain shuffled, and a tree.
 
-use crate::rows::told;
+use crate::flows::texts::told;
 use std::alloc::Global;
 use std::fmt::Write;
 use std::test::Fail;

@@ -1,16 +1,12 @@
 //! Flows at random against a plain evaluation.
 
-use crate::rows::told;
-use rand_core::utils::NextWord;
-use rand_pcg::Pcg32;
+use crate::draws::Draws;
+use crate::flows::texts::is_told;
 use std::alloc::Global;
 use std::fmt::Write;
 use std::test::Fail;
 
-/// The seed and the stream of the generator.
 const SEED: u64 = 20;
-
-const STREAM: u64 = 7;
 
 const NAMES: [&str; 16] = [
     "a",
@@ -35,7 +31,7 @@ const OPS: [&str; 5] = ["add", "mul", "min", "max", "xor"];
 
 /// A definition: a value, or an operation and the places of its inputs.
 #[derive(Clone, Copy)]
-pub(crate) enum Line {
+pub enum Line {
     Let(u64),
     Rule(usize, usize, usize),
 }
@@ -81,7 +77,7 @@ fn turn(alloc: Global, values: &[Option<u64>], lines: &[Line]) -> Result<Vec<Opt
 }
 
 /// The output by as many turns as there are definitions.
-pub(crate) fn expected(alloc: Global, lines: &[Line]) -> Result<String, Fail> {
+pub fn expected(alloc: Global, lines: &[Line]) -> Result<String, Fail> {
     let mut values = Vec::new(alloc);
     for _ in lines {
         values = turn(alloc, values.as_slice(), lines)?;
@@ -106,7 +102,7 @@ pub(crate) fn expected(alloc: Global, lines: &[Line]) -> Result<String, Fail> {
 }
 
 /// The input of these definitions.
-pub(crate) fn input(alloc: Global, lines: &[Line]) -> Result<String, Fail> {
+pub fn input(alloc: Global, lines: &[Line]) -> Result<String, Fail> {
     let mut text = String::new(alloc);
     for (place, line) in lines.iter().enumerate() {
         match line {
@@ -126,27 +122,17 @@ pub(crate) fn input(alloc: Global, lines: &[Line]) -> Result<String, Fail> {
     Ok(text)
 }
 
-/// One of the numbers below this one.
-fn below(generator: &mut Pcg32, count: u32) -> usize {
-    let word: u32 = generator.next_word();
-    (word % count.max(1)) as usize
-}
-
 /// Up to 15 definitions: a name may be used before it is defined, of itself, or be no name of a definition.
-pub(crate) fn made(alloc: Global, generator: &mut Pcg32) -> Result<Vec<Line>, Fail> {
+pub fn made(alloc: Global, draws: &mut Draws) -> Result<Vec<Line>, Fail> {
     let mut lines = Vec::new(alloc);
-    let count = below(generator, 16);
-    for _ in 0..count {
-        if below(generator, 3) == 0 {
-            let high: u32 = generator.next_word();
-            let low: u32 = generator.next_word();
-            let shift = below(generator, 64);
-            let word = ((high as u64) << 32) | low as u64;
-            lines.push(Line::Let(word >> (shift % 64)))?;
+    for _ in 0..draws.below(16) {
+        if draws.below(3) == 0 {
+            let word = ((draws.word() as u64) << 32) | draws.word() as u64;
+            lines.push(Line::Let(word >> (draws.below(64) % 64)))?;
         } else {
-            let op = below(generator, 5);
-            let left = below(generator, 16);
-            let right = below(generator, 16);
+            let op = draws.below(5) as usize;
+            let left = draws.below(16) as usize;
+            let right = draws.below(16) as usize;
             lines.push(Line::Rule(op, left, right))?;
         }
     }
@@ -156,13 +142,12 @@ pub(crate) fn made(alloc: Global, generator: &mut Pcg32) -> Result<Vec<Line>, Fa
 #[test]
 fn a_thousand_flows_are_evaluated(rt: HostRuntime) -> Result<(), Fail> {
     let alloc = rt.alloc();
-    let mut generator = Pcg32::new(SEED, STREAM);
+    let mut draws = Draws::new(SEED);
     for _ in 0..1000 {
-        let lines = made(alloc, &mut generator)?;
+        let lines = made(alloc, &mut draws)?;
         let text = input(alloc, lines.as_slice())?;
-        let output = told(alloc, text.as_bytes())?;
         let plain = expected(alloc, lines.as_slice())?;
-        assert!(rt; output.as_str() == plain.as_str());
+        assert!(rt; is_told(alloc, text.as_bytes(), plain.as_str())?);
     }
     Ok(())
 }

@@ -1,5 +1,0 @@
-//! Tests of cities and tours.
-#![tactic(auto)]
-
-#[cfg(test)]
-mod reading;
