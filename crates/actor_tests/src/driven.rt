@@ -1,5 +1,6 @@
 //! Clients driven by hand, a call or a letter at a time, with letters, entries and answers that were found by hand.
 
+use crate::lines::same;
 use adlb_unit::{
     Actor, BatchId, CommonRef, Config, End, Info, Letter, Message, Payload, Rank, Sending, Server,
     Target, Types, UnitId, UnitNote, WorkType,
@@ -362,54 +363,46 @@ impl Told {
     }
 }
 
-fn given(alloc: Global, told: &mut Told, step: &mut ClientStep) -> Result<String, Fail> {
-    let mut all = String::new(alloc);
-    add_step(&mut all, step)?;
-    told.hear(mem::replace(&mut step.answer, None));
-    Ok(all)
+// A client of a rank, the step that it makes, and what became of its calls.
+#[derive(Drop)]
+struct Driven {
+    client: ClientCore,
+    step: ClientStep,
+    told: Told,
 }
 
-// What a line of a scene gives, as it is shown.
-fn shown(
-    alloc: Global,
-    client: &mut ClientCore,
-    step: &mut ClientStep,
-    told: &mut Told,
-    line: Line,
-) -> Result<String, Fail> {
-    match line {
-        Line::Begins(makes) => begins(alloc, client, step, told, makes),
-        Line::Hears(from, stamp, says) => hears(alloc, client, step, told, (from, stamp, says)),
-        Line::IsReady(makes) => is_ready(alloc, client, makes),
-        Line::Expects(from, stamp, says) => expects(alloc, client, from, stamp, says),
-        Line::Answered => count(alloc, told.answered),
-        Line::SaidLast => said_last(alloc, told),
+impl Driven {
+    // What a line of a scene gives, as it is shown.
+    fn shown(&mut self, alloc: Global, line: Line) -> Result<String, Fail> {
+        match line {
+            Line::Begins(makes) => self.begins(alloc, makes),
+            Line::Hears(from, stamp, says) => self.hears(alloc, from, stamp, says),
+            Line::IsReady(makes) => is_ready(alloc, &self.client, makes),
+            Line::Expects(from, stamp, says) => expects(alloc, &self.client, from, stamp, says),
+            Line::Answered => count(alloc, self.told.answered),
+            Line::SaidLast => said_last(alloc, &self.told),
+        }
     }
-}
 
-// What the step of a call gives.
-fn begins(
-    alloc: Global,
-    client: &mut ClientCore,
-    step: &mut ClientStep,
-    told: &mut Told,
-    makes: Makes,
-) -> Result<String, Fail> {
-    begin(alloc, client, step, makes)?;
-    told.begin(makes);
-    given(alloc, told, step)
-}
+    // What the step of a call gives.
+    fn begins(&mut self, alloc: Global, makes: Makes) -> Result<String, Fail> {
+        begin(alloc, &mut self.client, &mut self.step, makes)?;
+        self.told.begin(makes);
+        self.given(alloc)
+    }
 
-// What the step of a letter gives: from whom it comes, its stamp, and what it says.
-fn hears(
-    alloc: Global,
-    client: &mut ClientCore,
-    step: &mut ClientStep,
-    told: &mut Told,
-    (from, stamp, says): (u32, u64, Says),
-) -> Result<String, Fail> {
-    hear(alloc, client, step, from, stamp, says)?;
-    given(alloc, told, step)
+    // What the step of a letter gives: from whom it comes, its stamp, and what it says.
+    fn hears(&mut self, alloc: Global, from: u32, stamp: u64, says: Says) -> Result<String, Fail> {
+        hear(alloc, &mut self.client, &mut self.step, from, stamp, says)?;
+        self.given(alloc)
+    }
+
+    fn given(&mut self, alloc: Global) -> Result<String, Fail> {
+        let mut all = String::new(alloc);
+        add_step(&mut all, &self.step)?;
+        self.told.hear(mem::replace(&mut self.step.answer, None));
+        Ok(all)
+    }
 }
 
 fn count(alloc: Global, number: usize) -> Result<String, Fail> {
@@ -429,22 +422,24 @@ fn said_last(alloc: Global, told: &Told) -> Result<String, Fail> {
 // A client of rank 0, one of two ranks, with this many servers gives what is written beside each line.
 fn play(rt: &impl Abort, alloc: Global, servers: u32, scene: &[(Line, &str)]) -> Result<(), Fail> {
     let config = Config::new(2, servers, 64)?;
-    let mut client = ClientCore::new(alloc, config, Rank(0))?;
-    go_through(rt, alloc, &mut client, scene)
+    let mut driven = Driven {
+        client: ClientCore::new(alloc, config, Rank(0))?,
+        step: ClientStep::new(alloc)?,
+        told: Told::nothing(),
+    };
+    go_through(rt, alloc, &mut driven, scene)
 }
 
 // The client gives what is written beside each line.
 fn go_through(
     rt: &impl Abort,
     alloc: Global,
-    client: &mut ClientCore,
+    driven: &mut Driven,
     scene: &[(Line, &str)],
 ) -> Result<(), Fail> {
-    let mut told = Told::nothing();
-    let mut step = ClientStep::new(alloc)?;
-    for (at, (line, expected)) in scene.iter().enumerate() {
-        let given = shown(alloc, client, &mut step, &mut told, *line)?;
-        assert_eq!(rt; given.as_str(), *expected, "line {at}");
+    for (line, expected) in scene {
+        let given = driven.shown(alloc, *line)?;
+        same(rt, given.as_str(), expected);
     }
     Ok(())
 }

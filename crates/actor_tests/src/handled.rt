@@ -2,6 +2,7 @@
 
 ghost use Rattle.std.specs.Prelude.{◌<◌};
 
+use crate::lines::same;
 use adlb_unit::{
     Actor, AskedList, BatchId, Config, Letter, Message, Payload, Rank, Sending, Server, Target,
     Token, Trouble, Types, Unit, UnitId, UnitNote, Why, WorkType,
@@ -505,9 +506,9 @@ fn go_through(
     server: &mut ServerState,
     scene: &[(Line, &str)],
 ) -> Result<(), Fail> {
-    for (at, (line, expected)) in scene.iter().enumerate() {
+    for (line, expected) in scene {
         let given = shown(alloc, server, *line)?;
-        assert_eq!(rt; given.as_str(), *expected, "line {at}");
+        same(rt, given.as_str(), expected);
     }
     Ok(())
 }

@@ -15,6 +15,8 @@ mod handled;
 #[cfg(test)]
 mod keeping;
 #[cfg(test)]
+mod lines;
+#[cfg(test)]
 mod moving;
 #[cfg(test)]
 mod parts;

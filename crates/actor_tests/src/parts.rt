@@ -4,6 +4,7 @@ ghost use Rattle.std.specs.Prelude.{◌≤◌, length};
 ghost use Rattle.adlb_unit.specs.Limits.{body_limit};
 ghost use Rattle.batch_store.specs.Store.{part_in, size_of};
 
+use crate::lines::same;
 use crate::queue::say;
 use adlb_unit::{BatchId, Payload, Rank};
 use batch_store::BatchStore;
@@ -161,8 +162,8 @@ fn check_one(
 {
     let (act, expected, charge) = row;
     let answer = make(alloc, store, queue, batch, act)?;
-    assert_eq!(rt; answer.as_str(), expected);
-    assert_eq!(rt; queue.charge(), charge);
+    same(rt, answer.as_str(), expected);
+    assert!(rt; queue.charge() == charge);
     Ok(())
 }
 

@@ -3,6 +3,7 @@
 ghost use Rattle.std.specs.Prelude.{◌≡◌};
 ghost use Rattle.put_path.specs.Pushes.{is_query, is_under_way};
 
+use crate::lines::same;
 use crate::queue::{id, is_new, say};
 use adlb_unit::{Config, Payload, Rank, Server, Target, Unit, UnitId, WorkType};
 use put_path::{Push, PushQuery, PushState, push_query, put};
@@ -165,7 +166,7 @@ fn go_through(
     for (act, expected) in rows {
         check(rt, alloc, pushes, queue, *act, expected)?;
     }
-    assert_eq!(rt; queue.charge(), charge);
+    assert!(rt; queue.charge() == charge);
     Ok(())
 }
 
@@ -178,7 +179,7 @@ fn check(
     expected: &str,
 ) -> Result<(), Fail> {
     let answer = make(alloc, pushes, queue, act)?;
-    assert_eq!(rt; answer.as_str(), expected);
+    same(rt, answer.as_str(), expected);
     Ok(())
 }
 

@@ -3,6 +3,7 @@
 ghost use Rattle.std.specs.Prelude.{◌≡◌, ◌≤◌, IfOk, IsTrue, length};
 ghost use Rattle.work_queue.specs.Queue.{HasNoPromise, HasNoUnit};
 
+use crate::lines::same;
 use adlb_unit::{Info, Payload, Rank, Target, Types, Unit, UnitId, WorkType};
 use std::alloc::Global;
 use std::process::Abort;
@@ -268,7 +269,7 @@ fn check(
     expected: &str,
 ) -> Result<(), Fail> {
     let found = answer(alloc, queue, step)?;
-    assert_eq!(rt; found.as_str(), expected);
+    same(rt, found.as_str(), expected);
     Ok(())
 }
 

@@ -3,6 +3,7 @@
 ghost use Rattle.std.specs.Prelude.{◌≡◌, IsTrue, true};
 ghost use Rattle.reserve_path.specs.Parked.{IsAway, IsHere, IsOther, is_pending};
 
+use crate::lines::same;
 use crate::queue::{id, is_new, say};
 use adlb_unit::{Config, Payload, Rank, Server, Target, Types, Unit, UnitId, UnitNote, WorkType};
 use reserve_path::{Parked, ReserveStep};
@@ -317,7 +318,7 @@ fn check(
     expected: &str,
 ) -> Result<(), Fail> {
     let answer = make(alloc, parked, queue, act)?;
-    assert_eq!(rt; answer.as_str(), expected);
+    same(rt, answer.as_str(), expected);
     Ok(())
 }
 

@@ -131,31 +131,23 @@ impl Reason for FlowWhy {
 }
 
 /// Why a command did not write its whole output. Its text is what the user is told.
-#[derive(Clone, Copy, Debug, thiserror::Error)]
+#[derive(Clone, Copy, Debug)]
 pub enum RunFault {
     /// A line of the input is refused: the first such line, from 1, and why.
-    #[error("line {line}: {why}")]
     Input { line: u64, why: LineWhy },
     /// The words are refused.
-    #[error("usage: adlbrun solve, make, drill, check, tour, flow or draw with their options")]
     Usage,
     /// The source failed.
-    #[error("read failed")]
     Read,
     /// The sink failed.
-    #[error("write failed")]
     Write,
     /// Allocation failed.
-    #[error("out of memory")]
     Memory,
     /// An event of the run would have this stamp, which is past the last one that is given.
-    #[error("stamp limit reached")]
     TooLong { stamp: u64 },
     /// The input has more than 2^24 bytes, or 2^26 for `check` and `draw`, of which this many were taken.
-    #[error("input too large")]
     TooLarge { taken: u64 },
     /// A start of a thread was refused.
-    #[error("a thread could not be started")]
     NoThread,
 }
 
@@ -178,6 +170,35 @@ impl RunFault {
         }
     }
 }
+
+impl RunFault {
+    // What the user is told, of a refused line before its number.
+    fn text(&self) -> &'static str {
+        match self {
+            RunFault::Input { .. } => "line",
+            RunFault::Usage =>
+                "usage: adlbrun solve, make, drill, check, tour, flow or draw with their options",
+            RunFault::Read => "read failed",
+            RunFault::Write => "write failed",
+            RunFault::Memory => "out of memory",
+            RunFault::TooLong { .. } => "stamp limit reached",
+            RunFault::TooLarge { .. } => "input too large",
+            RunFault::NoThread => "a thread could not be started",
+        }
+    }
+}
+
+impl fmt::Display for RunFault {
+    fn fmt<W: fmt::Write>(&self, f: &mut fmt::Formatter<W>) -> fmt::Result {
+        let text = self.text();
+        match self {
+            RunFault::Input { line, why } => write!(f, "{text} {line}: {why}"),
+            _ => write!(f, "{text}"),
+        }
+    }
+}
+
+impl Error for RunFault {}
 
 impl From<WordsFault> for RunFault {
     ghost use Rattle.adlb_command.specs.Ends.{fault_said};
