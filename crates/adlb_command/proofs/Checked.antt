@@ -11,12 +11,12 @@ use Rattle.ledger_command.specs.declared.faults.CheckFault.{CheckFault}
 use Rattle.ledger_command.specs.declared.faults.CheckFault.TheVariants as checks
 use Rattle.ledger_command.proofs.Ending.{RefusesNone, overlong_told, refused_there, text_told}
 use Rattle.ledger_file.specs.Lines.{IsFirstBad, IsText}
-use Rattle.adlb_command.specs.Ends.{fault_at_check, fault_told}
+use Rattle.command_ends.specs.Ends.{fault_at_check, fault_told}
 use Rattle.adlb_command.specs.Top.{EndsAsChecked, seen_in}
-use Rattle.adlb_command.specs.declared.ends.AnyKept.{AnyKept}
-use Rattle.adlb_command.specs.declared.faults.RunFault.{RunFault}
-use Rattle.adlb_command.specs.declared.faults.RunFault.TheVariants.{Input, Memory, TooLarge}
-use Rattle.adlb_command.specs.declared.faults.LineWhy.TheVariants.{Entry}
+use Rattle.command_ends.specs.declared.ends.AnyKept.{AnyKept}
+use Rattle.command_ends.specs.declared.faults.RunFault.{RunFault}
+use Rattle.command_ends.specs.declared.faults.RunFault.TheVariants.{Input, Memory, TooLarge}
+use Rattle.command_ends.specs.declared.reasons.LineWhy.TheVariants.{Entry}
 
 -- what was told without a fault is told, or memory failed
 pub fine_or : {X : Type 0} (P : X → Type 0) (told : Result X CheckFault) →

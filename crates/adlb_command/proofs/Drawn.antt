@@ -11,12 +11,12 @@ use Rattle.ledger_command.specs.declared.faults.CheckFault.TheVariants as checks
 use Rattle.ledger_file.specs.Lines.{IsFirstBad, IsText}
 use Rattle.ledger_picture.specs.Numbers.{IsNumbersOf}
 use Rattle.adlb_command.proofs.Checked.{either_is, either_told, fine_or}
-use Rattle.adlb_command.specs.Ends.{fault_told}
+use Rattle.command_ends.specs.Ends.{fault_told}
 use Rattle.adlb_command.specs.Top.{EndsAsDrawn, seen_in}
-use Rattle.adlb_command.specs.declared.ends.AnyKept.{AnyKept}
-use Rattle.adlb_command.specs.declared.faults.RunFault.{RunFault}
-use Rattle.adlb_command.specs.declared.faults.RunFault.TheVariants.{Input, Memory, TooLarge}
-use Rattle.adlb_command.specs.declared.faults.LineWhy.TheVariants.{Entry}
+use Rattle.command_ends.specs.declared.ends.AnyKept.{AnyKept}
+use Rattle.command_ends.specs.declared.faults.RunFault.{RunFault}
+use Rattle.command_ends.specs.declared.faults.RunFault.TheVariants.{Input, Memory, TooLarge}
+use Rattle.command_ends.specs.declared.reasons.LineWhy.TheVariants.{Entry}
 
 module _ (before after : Scene) (fault : Option RunFault) (kept : Option AnyKept) (bytes : List ℕ)
     (ends : EndsAsDrawn before after fault kept) (told : before.left ≡ Some bytes) (no_read : Rises before.reads after.reads → ⊥) where

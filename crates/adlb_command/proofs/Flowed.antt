@@ -11,8 +11,8 @@ use Rattle.run_command.specs.Ends.{Keeps, Scene}
 use Rattle.run_command.specs.Kept.{IsKept, Kept}
 use Rattle.run_command.specs.declared.faults.Fault.{Fault}
 use Rattle.run_command.specs.declared.faults.Fault.TheVariants.{Input, Read, Write, NoThread, Memory, TooLong, TooLarge}
-use Rattle.adlb_command.specs.declared.ends.AnyKept.{AnyKept}
-use Rattle.adlb_command.specs.declared.ends.AnyKept.TheVariants.{Flows}
+use Rattle.command_ends.specs.declared.ends.AnyKept.{AnyKept}
+use Rattle.command_ends.specs.declared.ends.AnyKept.TheVariants.{Flows}
 
 module _ (ranks : ℕ) (before after : Scene) (k : Kept FlowOutcome) (bytes : List ℕ) (told : before.left ≡ Some bytes) where
   kept_asked : (IsWritten : List ℕ → Type 0) →

@@ -7,11 +7,11 @@ use Rattle.made_jobs.specs.Ends.{MakesTo, SinkSeen, sink_seen}
 use Rattle.made_jobs.specs.Made.{made_text}
 use Rattle.made_jobs.specs.declared.faults.MadeFault.{MadeFault}
 use Rattle.made_jobs.specs.declared.faults.MadeFault.TheVariants as makes
-use Rattle.adlb_command.specs.Ends.{fault_made}
+use Rattle.command_ends.specs.Ends.{fault_made}
 use Rattle.adlb_command.specs.Top.{EndsAsMade}
-use Rattle.adlb_command.specs.declared.ends.AnyKept.{AnyKept}
-use Rattle.adlb_command.specs.declared.faults.RunFault.{RunFault}
-use Rattle.adlb_command.specs.declared.faults.RunFault.TheVariants.{Memory}
+use Rattle.command_ends.specs.declared.ends.AnyKept.{AnyKept}
+use Rattle.command_ends.specs.declared.faults.RunFault.{RunFault}
+use Rattle.command_ends.specs.declared.faults.RunFault.TheVariants.{Memory}
 
 -- nothing of a text was taken
 pub none_taken : (before after : Option (List ℕ)) (text : List ℕ) → after ≡ before → TakesPrefix before after text

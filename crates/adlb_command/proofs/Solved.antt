@@ -4,9 +4,9 @@ use Rattle.std.specs.Prelude.{option_map}
 use Rattle.run_command.specs.Ends.{IsFine as IsFineRun}
 use Rattle.run_command.specs.declared.faults.Fault.{Fault}
 use Rattle.run_command.specs.declared.faults.Fault.TheVariants as runs
-use Rattle.adlb_command.specs.Ends.{IsFine, fault_run}
-use Rattle.adlb_command.specs.declared.faults.LineWhy.{LineWhy}
-use Rattle.adlb_command.specs.declared.faults.RunFault.{RunFault}
+use Rattle.command_ends.specs.Ends.{IsFine, fault_run}
+use Rattle.command_ends.specs.declared.reasons.LineWhy.{LineWhy}
+use Rattle.command_ends.specs.declared.faults.RunFault.{RunFault}
 
 fine_ended : {W : Type 0} (means : W → LineWhy) (met : Option (Fault W)) → IsFineRun met → IsFine (option_map (fault_run means) met)
 fine_ended means None is = tt

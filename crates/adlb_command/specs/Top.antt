@@ -23,17 +23,17 @@ use Rattle.run_command.specs.Ends.{IsSilent, ReadsNothing, Scene, StartsNone}
 use Rattle.run_command.specs.declared.faults.Fault.{Fault}
 use Rattle.run_command.specs.Kept.{Kept}
 use Rattle.solve_command.specs.Ends.{Drills, Solves}
-use Rattle.solve_command.specs.Told.{behind}
+use Rattle.solve_report.specs.Told.{behind}
 use Rattle.tour_app.specs.declared.outcomes.TourOutcome.{TourOutcome}
 use Rattle.tour_command.specs.Ends.{FindsTour}
 use Rattle.tour_search.specs.declared.faults.CitiesWhy.{CitiesWhy}
-use Rattle.adlb_command.specs.Ends.{fault_made, fault_run, fault_told, why_of, why_of_cities, why_of_flow}
+use Rattle.command_ends.specs.Ends.{fault_made, fault_run, fault_told, why_of, why_of_cities, why_of_flow}
 use Rattle.adlb_command.specs.Words.{IsConfigOf, extras_of, ranks_of, settings_of}
-use Rattle.adlb_command.specs.declared.ends.AnyKept.{AnyKept}
-use Rattle.adlb_command.specs.declared.ends.AnyKept.TheVariants.{Puzzles, Tours, Flows}
-use Rattle.adlb_command.specs.declared.faults.LineWhy.{LineWhy}
-use Rattle.adlb_command.specs.declared.faults.RunFault.{RunFault}
-use Rattle.adlb_command.specs.declared.faults.RunFault.TheVariants.{Usage, Memory}
+use Rattle.command_ends.specs.declared.ends.AnyKept.{AnyKept}
+use Rattle.command_ends.specs.declared.ends.AnyKept.TheVariants.{Puzzles, Tours, Flows}
+use Rattle.command_ends.specs.declared.reasons.LineWhy.{LineWhy}
+use Rattle.command_ends.specs.declared.faults.RunFault.{RunFault}
+use Rattle.command_ends.specs.declared.faults.RunFault.TheVariants.{Usage, Memory}
 
 -- what `check` and `draw` see of the outside
 abbrev pub seen_in : Scene → Seen

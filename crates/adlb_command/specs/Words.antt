@@ -5,7 +5,7 @@ use Rattle.command_words.specs.declared.commands.RunOptions.{RunOptions}
 use Rattle.command_words.specs.declared.commands.Sizes.{Sizes}
 use Rattle.command_words.specs.declared.commands.SolveWords.{SolveWords}
 use Rattle.puzzle_app.specs.declared.outcomes.Settings.{Settings}
-use Rattle.solve_command.specs.declared.extras.Extras.{Extras}
+use Rattle.solve_report.specs.declared.extras.Extras.{Extras}
 
 -- the settings of the puzzles, and what follows the report
 abbrev pub settings_of : RunOptions → Settings

@@ -24,10 +24,10 @@ ghost use Rattle.spending_law.specs.Most.{most_calls};
 ghost use Rattle.tour_search.specs.Cities.{CitiesModel};
 ghost use Rattle.tour_search.specs.Reading.{input_cities};
 ghost use Rattle.tour_search.specs.declared.faults.CitiesWhy.{CitiesWhy};
-ghost use Rattle.adlb_command.specs.declared.ends.AnyKept.{AnyKept};
-ghost use Rattle.adlb_command.specs.declared.faults.LineWhy.{LineWhy};
-ghost use Rattle.adlb_command.specs.declared.faults.RunFault.{RunFault};
-ghost use Rattle.adlb_command.specs.Ends.{IsFine, why_of, why_of_cities, why_of_flow};
+ghost use Rattle.command_ends.specs.declared.ends.AnyKept.{AnyKept};
+ghost use Rattle.command_ends.specs.declared.reasons.LineWhy.{LineWhy};
+ghost use Rattle.command_ends.specs.declared.faults.RunFault.{RunFault};
+ghost use Rattle.command_ends.specs.Ends.{IsFine, why_of, why_of_cities, why_of_flow};
 ghost use Rattle.adlb_command.specs.Top.{EndsAs};
 ghost use Rattle.adlb_command.specs.Words.{ranks_of, told_or_not};
 

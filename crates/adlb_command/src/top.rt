@@ -4,13 +4,12 @@ ghost use Rattle.std.specs.Prelude.{◌≡◌, ◌≤◌, ℕ, List, Option, Som
 ghost use Rattle.std.specs.String.{string_bytes};
 ghost use Rattle.command_words.specs.Said.{command_of};
 ghost use Rattle.run_command.specs.Ends.{scene};
-ghost use Rattle.adlb_command.specs.Ends.{status_of};
+ghost use Rattle.command_ends.specs.Ends.{status_of};
 ghost use Rattle.adlb_command.specs.Top.{EndsAs, EndsAsChecked, EndsAsDrawn, EndsAsMade};
 
-use crate::ends::RunEnd;
-use crate::faults::RunFault;
 use crate::words::{config, extras, settings};
 use adlb_io::{Gate, Sink, Source, Spawner};
+use command_ends::{RunEnd, RunFault};
 use command_words::{Command, read_words};
 use draw_command::draw_ledger;
 use flow_command::flow;

@@ -1,8 +1,8 @@
 //! From the words of the command line to the exit status.
 
 ghost use Rattle.std.specs.Prelude.{◌≡◌, Option};
-ghost use Rattle.adlb_command.specs.Ends.{status_of};
-ghost use Rattle.adlb_command.specs.declared.faults.RunFault.{RunFault};
+ghost use Rattle.command_ends.specs.Ends.{status_of};
+ghost use Rattle.command_ends.specs.declared.faults.RunFault.{RunFault};
 
 use crate::complaints::Complaint;
 use crate::telling::{Telling, end};

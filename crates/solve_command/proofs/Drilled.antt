@@ -15,7 +15,7 @@ use Rattle.run_command.specs.declared.faults.Fault.TheVariants.{Memory}
 use Rattle.run_command.specs.Kept.{Kept}
 use Rattle.solve_command.proofs.Ended.{accepted_fine, short_fine}
 use Rattle.solve_command.specs.Ends.{Drills, EndsWith}
-use Rattle.solve_command.specs.Told.{IsSummed}
+use Rattle.solve_report.specs.Told.{IsSummed}
 use Rattle.spending_law.specs.Most.{most_calls}
 
 -- no read failed

@@ -11,7 +11,7 @@ use Rattle.run_command.specs.declared.faults.Fault.TheVariants.{Memory}
 use Rattle.run_command.proofs.Ending.{ends_early}
 use Rattle.solve_command.specs.Ends.{Drills, Solves}
 use Rattle.solve_command.specs.Puzzles.{AreJobs, ArePrograms, FollowsPuzzles, RefusesLine}
-use Rattle.solve_command.specs.Told.{IsReported, IsSummed}
+use Rattle.solve_report.specs.Told.{IsReported, IsSummed}
 use Rattle.spending_law.specs.Most.{most_calls}
 
 module _ (settings : Settings) (ranks : ℕ) (IsOf : Config → Type 0) (inline : Bool) (before after : Scene)

@@ -13,7 +13,7 @@ use Rattle.run_command.specs.Ends.{EndsBy, ReadsNothing, Scene, scene}
 use Rattle.run_command.specs.Kept.{IsKept, IsRunWith, Kept}
 use Rattle.run_command.specs.declared.faults.Fault.{Fault}
 use Rattle.solve_command.specs.Puzzles.{AreJobs, ArePrograms}
-use Rattle.solve_command.specs.Told.{IsReported, IsSummed}
+use Rattle.solve_report.specs.Told.{IsReported, IsSummed}
 use Rattle.spending_law.specs.Most.{most_calls}
 
 -- The ends of a run of this number of ranks over puzzles and batches, with these settings, of which this is written. Its stamps run out

@@ -4,9 +4,7 @@ ghost use Rattle.std.specs.Prelude.{◌≡◌, ◌≤◌, ℕ, List, Option, tru
 ghost use Rattle.run_command.specs.Ends.{scene};
 ghost use Rattle.solve_command.specs.Ends.{Drills};
 
-use crate::extras::Extras;
 use crate::puzzles::Puzzles;
-use crate::wanted::Wanted;
 use adlb_io::{Gate, Sink, Spawner, SteadySource};
 use adlb_unit::Config;
 use job_report::Outcome;
@@ -14,6 +12,7 @@ use job_text::LineWhy;
 use made_jobs::made;
 use puzzle_app::Settings;
 use run_command::{Ended, Fault, run};
+use solve_report::{Extras, Wanted};
 use std::alloc::Global;
 
 /// Works the made text of `count` puzzles from `seed` as `solve` works an input, and writes the summary in place of the report. `Drills`

@@ -11,8 +11,8 @@ ghost use Rattle.run_command.specs.Ends.{IsFine, Scene, input_limit};
 ghost use Rattle.run_command.specs.declared.faults.Fault.{Fault};
 ghost use Rattle.run_command.specs.Kept.{Kept};
 ghost use Rattle.solve_command.specs.Ends.{EndsWith};
-ghost use Rattle.solve_command.specs.Told.{IsTold};
-ghost use Rattle.solve_command.specs.declared.wanted.Wanted.{Wanted};
+ghost use Rattle.solve_report.specs.Told.{IsTold};
+ghost use Rattle.solve_report.specs.declared.wanted.Wanted.{Wanted};
 ghost use Rattle.spending_law.specs.Most.{most_calls};
 
 /// What follows of a source that tells its bytes, if no read failed, for any settings, whatever is wanted of it. An accepted input is

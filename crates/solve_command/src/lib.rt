@@ -5,22 +5,18 @@
 //!     let drilled = drill(alloc, 500, 1, settings, config, false, &mut output, &mut threads, FreeGate {});
 //!
 //! `Puzzles` is a command of `run_command`: it asks for the jobs of an input (`job_text`), which the programs of `puzzle_app` work, and
-//! tells their report or a summary (`job_report`). `solve` runs it over an input, and `drill` over a made text. `specs/Ends.antt` says how
-//! the two end, `specs/Puzzles.antt` what is asked and run, and `specs/Told.antt` what is told; `Tail` is what a caller wants after a
-//! report.
+//! tells their report or a summary (`solve_report`). `solve` runs it over an input, and `drill` over a made text. `specs/Ends.antt` says how
+//! the two end, and `specs/Puzzles.antt` what is asked and run; `Tail` is what a caller wants after a report.
 #![tactic(auto)]
 
 mod drilling;
-mod extras;
 mod laws;
 mod puzzles;
 mod solving;
 mod telling;
-mod wanted;
 
 pub use drilling::drill;
-pub use extras::{Extras, Tail};
 pub use laws::puzzle_laws;
 pub use puzzles::{PuzzleJobs, Puzzles};
+pub use solve_report::{Extras, Tail, Wanted};
 pub use solving::solve;
-pub use wanted::Wanted;

@@ -6,19 +6,18 @@ ghost use Rattle.cover_law.specs.Begun.{pending_of};
 ghost use Rattle.run_command.proofs.Hearing.{come_by};
 ghost use Rattle.run_command.specs.Reading.{RefusesBy};
 ghost use Rattle.solve_command.specs.Puzzles.{AreJobs, ArePrograms, RefusesLine};
-ghost use Rattle.solve_command.specs.Told.{IsTold};
+ghost use Rattle.solve_report.specs.Told.{IsTold};
 ghost use Rattle.spending_law.proofs.Together.{at_end, at_work, begun_most};
 ghost use Rattle.spending_law.specs.Most.{most_calls};
 ghost use Rattle.spending_law.specs.UnderWay.{HasCome, hears};
 
-use crate::extras::Tail;
 use crate::telling::tell_run;
-use crate::wanted::Wanted;
 use adlb_unit::NoMemory;
 use job_report::Outcome;
 use job_text::{Jobs, JobsFault, LineWhy, read_jobs};
 use puzzle_app::{PuzzleProgram, Settings};
 use run_command::{Command, Kept, ReadFault};
+use solve_report::{Tail, Wanted};
 use std::alloc::Global;
 use std::marker::Model;
 

@@ -4,15 +4,14 @@ ghost use Rattle.std.specs.Prelude.{◌≡◌, ◌≤◌, true};
 ghost use Rattle.run_command.specs.Ends.{scene};
 ghost use Rattle.solve_command.specs.Ends.{Solves};
 
-use crate::extras::Tail;
 use crate::puzzles::Puzzles;
-use crate::wanted::Wanted;
 use adlb_io::{Gate, Sink, Source, Spawner};
 use adlb_unit::Config;
 use job_report::Outcome;
 use job_text::LineWhy;
 use puzzle_app::Settings;
 use run_command::{Ended, run};
+use solve_report::{Tail, Wanted};
 use std::alloc::Global;
 
 /// Reads the input's puzzles and batches, and works them with these settings, in line or with the configuration's ranks and servers.

@@ -3,15 +3,14 @@
 ghost use Rattle.std.specs.Prelude.{IfOk};
 ghost use Rattle.run_command.specs.Kept.{HasRun, IsWorkedUp};
 ghost use Rattle.solve_command.specs.Puzzles.{ArePrograms, FollowsPuzzles};
-ghost use Rattle.solve_command.specs.Told.{IsTold};
+ghost use Rattle.solve_report.specs.Told.{IsTold};
 
-use crate::extras::Tail;
 use crate::puzzles::PuzzleJobs;
-use crate::wanted::{Wanted, text_of};
 use adlb_unit::NoMemory;
 use job_report::Outcome;
 use puzzle_app::Settings;
 use run_command::Kept;
+use solve_report::{Tail, Wanted, text_of};
 use std::alloc::Global;
 
 /// The text that is wanted of a run with these settings over these jobs, of which this is kept. All work of the run is done. Its only

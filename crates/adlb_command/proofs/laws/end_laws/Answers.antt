@@ -4,9 +4,9 @@ use Rattle.run_command.specs.Ends.{input_limit}
 use Rattle.run_command.specs.declared.faults.Fault.TheVariants as runs
 use Rattle.solve_command.proofs.Drilled.{drilled_fine, drilled_short}
 use Rattle.solve_command.proofs.Ended.{accepted_fine, overlong_told, refused_at_line, short_fine}
-use Rattle.solve_command.specs.Told.{IsReported, behind}
+use Rattle.solve_report.specs.Told.{IsReported, behind}
 use Rattle.tour_command.proofs.Ended as cities
-use Rattle.adlb_command.specs.Ends.{why_of, why_of_cities, why_of_flow}
+use Rattle.command_ends.specs.Ends.{why_of, why_of_cities, why_of_flow}
 use Rattle.adlb_command.specs.Words.{IsConfigOf, extras_of, ranks_of, settings_of}
 use Rattle.adlb_command.proofs.Checked.{bad_checked, long_checked, text_checked}
 use Rattle.adlb_command.proofs.Drawn.{bad_drawn, long_drawn, text_drawn}

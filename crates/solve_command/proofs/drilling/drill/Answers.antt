@@ -4,7 +4,7 @@ use Rattle.adlb_unit.specs.declared.configs.Config.{Config}
 use Rattle.run_command.specs.Ends.{Scene, scene}
 use Rattle.run_command.proofs.Running.{ran_apart}
 use Rattle.solve_command.specs.Ends.{EndsWith}
-use Rattle.solve_command.specs.Told.{IsSummed}
+use Rattle.solve_report.specs.Told.{IsSummed}
 use Rattle.solve_command.proofs.drilling.drill.Goals as goal
 
 pub returns-clause-drills : goal.returns-clause-drills

@@ -1,5 +1,5 @@
 use Rattle.solve_command.proofs.Ended.{accepted_fine, overlong_told, refused_at_line, short_fine}
-use Rattle.solve_command.specs.Told.{IsTold}
+use Rattle.solve_report.specs.Told.{IsTold}
 use Rattle.solve_command.proofs.laws.puzzle_laws.Goals as goal
 
 pub returns-clause-complete : goal.returns-clause-complete

@@ -5,7 +5,7 @@ use Rattle.job_report.specs.declared.outcomes.Outcome.{Outcome}
 use Rattle.job_text.specs.declared.jobs.Job.{Job}
 use Rattle.run_command.specs.Kept.{IsWorkedUp}
 use Rattle.solve_command.proofs.Joining.{few_made, on_ok_always, run_whole, run_worked_up}
-use Rattle.solve_command.specs.Told.{IsTold}
+use Rattle.solve_report.specs.Told.{IsTold}
 use Rattle.solve_command.proofs.telling.tell_run.Goals as goal
 
 pub text_of-requires : goal.text_of-requires

@@ -2,7 +2,7 @@
 
 ghost use Rattle.std.specs.Prelude.{◌≡◌, ◌++◌, ◌<◌, ◌^◌, ℕ, IfOk, OnOk};
 ghost use Rattle.job_report.specs.Whole.{AreWhole, made_in};
-ghost use Rattle.solve_command.specs.Told.{IsReported, IsSummed, IsTold, drill_line};
+ghost use Rattle.solve_report.specs.Told.{IsReported, IsSummed, IsTold, drill_line};
 
 use crate::extras::Tail;
 use adlb_unit::{NoMemory, or_no_memory};

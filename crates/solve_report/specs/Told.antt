@@ -8,9 +8,9 @@ use Rattle.job_text.specs.declared.jobs.Job.{Job}
 use Rattle.ledger_file.specs.Lines.{text}
 use Rattle.ledger_stats.specs.Stats.{stats_text}
 use Rattle.puzzle_app.specs.declared.outcomes.Settings.{Settings}
-use Rattle.solve_command.specs.declared.extras.Extras.{Extras}
-use Rattle.solve_command.specs.declared.wanted.Wanted.{Wanted}
-use Rattle.solve_command.specs.declared.wanted.Wanted.TheVariants.{Report, Summary}
+use Rattle.solve_report.specs.declared.extras.Extras.{Extras}
+use Rattle.solve_report.specs.declared.wanted.Wanted.{Wanted}
+use Rattle.solve_report.specs.declared.wanted.Wanted.TheVariants.{Report, Summary}
 
 -- the report of the jobs, and after it this tail of what is kept
 abbrev pub IsReported : Settings → (Reported Outcome → List ℕ) → List Job → Reported Outcome → List ℕ → Type 0

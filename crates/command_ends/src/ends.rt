@@ -3,7 +3,8 @@
 ghost use Rattle.std.specs.Prelude.{◌≡◌};
 ghost use Rattle.run_command.specs.Kept.{Kept};
 
-use crate::faults::{Reason, RunFault};
+use crate::faults::RunFault;
+use crate::reasons::Reason;
 use adlb_unit::Config;
 use flow_app::FlowOutcome;
 use job_report::Outcome;
@@ -25,7 +26,7 @@ pub enum AnyKept {
 
 /// What a rank of some kind of program leaves.
 pub trait Left {
-    ghost use Rattle.adlb_command.specs.declared.ends.AnyKept.{AnyKept};
+    ghost use Rattle.command_ends.specs.declared.ends.AnyKept.{AnyKept};
 
     // What is kept of a run, among all that a command keeps.
     ghost holds: { Kept Self → AnyKept };
@@ -36,7 +37,7 @@ pub trait Left {
 }
 
 impl Left for Outcome {
-    ghost use Rattle.adlb_command.specs.declared.ends.AnyKept.TheVariants.{Puzzles};
+    ghost use Rattle.command_ends.specs.declared.ends.AnyKept.TheVariants.{Puzzles};
 
     ghost holds = { Puzzles };
 
@@ -48,7 +49,7 @@ impl Left for Outcome {
 }
 
 impl Left for TourOutcome {
-    ghost use Rattle.adlb_command.specs.declared.ends.AnyKept.TheVariants.{Tours};
+    ghost use Rattle.command_ends.specs.declared.ends.AnyKept.TheVariants.{Tours};
 
     ghost holds = { Tours };
 
@@ -60,7 +61,7 @@ impl Left for TourOutcome {
 }
 
 impl Left for FlowOutcome {
-    ghost use Rattle.adlb_command.specs.declared.ends.AnyKept.TheVariants.{Flows};
+    ghost use Rattle.command_ends.specs.declared.ends.AnyKept.TheVariants.{Flows};
 
     ghost holds = { Flows };
 
@@ -72,7 +73,7 @@ impl Left for FlowOutcome {
 }
 
 impl AnyKept {
-    ghost use Rattle.adlb_command.specs.Ends.{config_kept, ledger_kept};
+    ghost use Rattle.command_ends.specs.Ends.{config_kept, ledger_kept};
 
     /// The configuration of the run.
     pub fn config(&self) -> Config
@@ -110,7 +111,7 @@ pub struct RunEnd {
 
 impl RunEnd {
     ghost use Rattle.std.specs.Prelude.{None, option_map};
-    ghost use Rattle.adlb_command.specs.Ends.{fault_run, status_of};
+    ghost use Rattle.command_ends.specs.Ends.{fault_run, status_of};
 
     /// The end of a command with this fault, if there is one, which keeps nothing.
     pub fn new(fault: Option<RunFault>) -> RunEnd

@@ -16,13 +16,13 @@ use Rattle.run_command.specs.declared.faults.Fault.{Fault}
 use Rattle.run_command.specs.declared.faults.Fault.TheVariants as runs
 use Rattle.tour_search.specs.declared.faults.CitiesWhy.{CitiesWhy}
 use Rattle.tour_search.specs.declared.faults.CitiesWhy.TheVariants as cities
-use Rattle.adlb_command.specs.declared.ends.AnyKept.{AnyKept}
-use Rattle.adlb_command.specs.declared.ends.AnyKept.TheVariants.{Puzzles, Tours, Flows}
-use Rattle.adlb_command.specs.declared.faults.LineWhy.{LineWhy}
-use Rattle.adlb_command.specs.declared.faults.LineWhy.TheVariants.{Long, Length, Character, Item, Number, Word, Entry, Cities, Cost, Extra}
-use Rattle.adlb_command.specs.declared.faults.LineWhy.TheVariants.{Form, Twice, Many}
-use Rattle.adlb_command.specs.declared.faults.RunFault.{RunFault}
-use Rattle.adlb_command.specs.declared.faults.RunFault.TheVariants.{Input, Usage, Read, Write, NoThread, Memory, TooLong, TooLarge}
+use Rattle.command_ends.specs.declared.ends.AnyKept.{AnyKept}
+use Rattle.command_ends.specs.declared.ends.AnyKept.TheVariants.{Puzzles, Tours, Flows}
+use Rattle.command_ends.specs.declared.reasons.LineWhy.{LineWhy}
+use Rattle.command_ends.specs.declared.reasons.LineWhy.TheVariants.{Long, Length, Character, Item, Number, Word, Entry, Cities, Cost, Extra}
+use Rattle.command_ends.specs.declared.reasons.LineWhy.TheVariants.{Form, Twice, Many}
+use Rattle.command_ends.specs.declared.faults.RunFault.{RunFault}
+use Rattle.command_ends.specs.declared.faults.RunFault.TheVariants.{Input, Usage, Read, Write, NoThread, Memory, TooLong, TooLarge}
 
 -- the exit status of each fault, and 0 without one
 abbrev pub status_of : Option RunFault → ℕ

@@ -3,7 +3,7 @@
 ghost use Rattle.std.specs.Prelude.{◌≡◌, ◌++◌, ℕ, List, OnOk};
 ghost use Rattle.run_command.specs.Reports.{Reported};
 ghost use Rattle.job_report.specs.declared.outcomes.Outcome.{Outcome};
-ghost use Rattle.solve_command.specs.Told.{behind, ledger_behind, stats_behind};
+ghost use Rattle.solve_report.specs.Told.{behind, ledger_behind, stats_behind};
 
 use adlb_unit::{NoMemory, or_no_memory};
 use job_report::Outcome;

@@ -2,10 +2,10 @@ use Rattle.std.proofs.Common.{◌≡◌, ◌<◌, ◌^◌, ◌∙◌, List, ap, 
 use Rattle.run_command.specs.Reports.{Reported}
 use Rattle.job_report.specs.declared.outcomes.Outcome.{Outcome}
 use Rattle.job_report.specs.Whole.{made_in}
-use Rattle.solve_command.proofs.wanted.report_of.Goals as goal
+use Rattle.solve_report.proofs.wanted.summary_of.Goals as goal
 
-pub render-requires : goal.render-requires
-render-requires g c =
+pub summarize-requires : goal.summarize-requires
+summarize-requires c =
     let same : c.deref.result.now ≡ c.args.report.now.outcomes =
     c.deref.ensures.value ∙ ap (λ (r : Reported Outcome). r.outcomes) c.report.view_is in
     record { room = λ k. subst (λ (os : List Outcome). made_in k os < 2 ^ 128) (sym same) (c.requires.room k) }
