@@ -1,182 +1,32 @@
-//! Calls of a rank whose server's letters are in its mailbox beforehand.
+//! Calls of a rank whose servers' letters are in its mailbox beforehand.
 
-ghost use Rattle.std.specs.Prelude.{◌≡◌, false, IfOk};
+ghost use Rattle.std.specs.Prelude.{◌≡◌, ◌<◌, ◌+◌, [], false};
 ghost use Rattle.actor_desk.specs.Desks.{IsNew};
-ghost use Rattle.rank_client.specs.Calls.{granted, has_finished, is_fetched};
-ghost use Rattle.rank_mail.specs.Mailboxes.{places_of};
+ghost use Rattle.rank_client.specs.Calls.{has_finished};
 
-use crate::mail::{Mail, Three, send, three_desks};
+use crate::cast::{Others, POOL};
+use crate::gates::SeenGate;
+use crate::heard::Heard;
+use crate::parts::{Part, Script, is_played};
+use crate::programs::{begin, put, take};
+use crate::says::{Line, Says, TOO_LONG};
 use actor_desk::{Desk, Mailing};
-use adlb_io::{Gate, GatePoint};
-use adlb_unit::{
-    Actor, BatchId, CommonRef, Config, End, Handle, Message, NoMemory, Payload, Rank, Server,
-    Target, Trouble, Types, UnitId, UnitNote, WorkType, or_no_memory,
-};
-use bag_ledger::Body;
+use adlb_io::GatePoint;
+use adlb_unit::{Config, NoMemory, Rank, STAMP_LIMIT, Target, Trouble, or_no_memory};
 use crossbeam_channel::{Receiver, Sender, bounded};
 use rank_client::{Adlb, EndFault, PutFault};
 use std::alloc::Global;
-use std::marker::Brand;
 use std::sync::Wait;
 use std::test::Fail;
 use thread_client::{ActorFault, LinkEnd, ThreadedLink};
 
-// A gate that tells which points were passed, by which rank.
-#[derive(Drop)]
-struct SeenGate<R: Wait> {
-    rt: R,
-    seen: Sender<(u32, GatePoint), Global>,
-}
-
-impl<R: Wait + Copy> Gate for SeenGate<R> {
-    fn pass(&self, rank: Rank, point: GatePoint) {
-        let _ = self.seen.try_send(&self.rt, (rank.0, point));
-    }
-
-    fn twin(&self) -> Result<SeenGate<R>, NoMemory> {
-        Ok(SeenGate {
-            rt: self.rt,
-            seen: or_no_memory(self.seen.clone())?,
-        })
-    }
-}
-
 type Link<R, M> = ThreadedLink<R, SeenGate<R>, M>;
 
-// What the server of a run of two ranks has said to rank 0.
-#[derive(Clone, Copy)]
-enum Says {
-    Accepted { request: u64 },
-    // A unit of rank 1, of one byte.
-    Granted { request: u64 },
-    // That unit, with a common part of two bytes.
-    GrantedInBatch { request: u64 },
-    // The unit's own byte, `c`.
-    Own { request: u64 },
-    // The common part, `ab`.
-    Common { request: u64 },
-    Exhausted { request: u64 },
-    Broken { stamp: u64 },
-}
-
-fn message(alloc: Global, says: Says) -> Result<Message, NoMemory> {
-    Ok(match says {
-        Says::Accepted { request } => Message::Accepted { request },
-        Says::Granted { request } => grant(request, None),
-        Says::GrantedInBatch { request } => grant(request, Some(COMMON)),
-        Says::Own { request } => bytes(request, Payload::copy(alloc, b"c".as_slice())?),
-        Says::Common { request } => bytes(request, Payload::copy(alloc, b"ab".as_slice())?),
-        Says::Exhausted { request } => Message::Ended {
-            request,
-            end: End::Exhausted,
-        },
-        Says::Broken { stamp } => Message::Broken {
-            trouble: Trouble::TooLong { stamp },
-        },
-    })
-}
-
-const COMMON: CommonRef = CommonRef {
-    batch: BatchId {
-        rank: Rank(1),
-        number: 2,
-    },
-    server: Server(0),
-    length: 2,
-};
-
-fn grant(request: u64, common: Option<CommonRef>) -> Message {
-    let note = UnitNote {
-        id: UnitId {
-            rank: Rank(1),
-            number: 3,
-        },
-        kind: WorkType(1),
-        prio: 0,
-        answer: None,
-        server: Server(0),
-        common,
-        length: 1,
-    };
-    Message::Grant { request, note }
-}
-
-fn bytes(request: u64, body: Payload) -> Message {
-    Message::Bytes { request, body }
-}
-
-/// What the server hears of rank 0.
-#[derive(Clone, Copy, PartialEq, Eq)]
-pub enum Heard {
-    Put,
-    KeepCommon,
-    Finish,
-    Gone(Trouble),
-    Other,
-}
-
-fn heard_of(from: u32, message: &Message) -> Heard {
-    match message {
-        _ if from != 0 => Heard::Other,
-        Message::Put { .. } => Heard::Put,
-        Message::KeepCommon { .. } => Heard::KeepCommon,
-        Message::Finish => Heard::Finish,
-        Message::Gone { trouble } => Heard::Gone(*trouble),
-        _ => Heard::Other,
-    }
-}
-
-// The server of the run, actor 2.
-#[derive(Drop)]
-pub struct Host<M: Mailing> {
-    pub desk: Desk<M>,
-}
-
-impl<M: Mailing> Host<M> {
-    // Puts letters into the mailbox of rank 0.
-    fn say_all<R: Wait + Copy>(
-        &mut self,
-        rt: &R,
-        alloc: Global,
-        says: &[Says],
-    ) -> Result<(), NoMemory> {
-        for said in says {
-            let message = message(alloc, *said)?;
-            send(rt, alloc, &mut self.desk, Actor::Rank(Rank(0)), 7, message)?;
-        }
-        Ok(())
-    }
-
-    /// The next letter is of rank 0 and says this.
-    pub fn is_told<R: Wait + Copy>(&mut self, rt: &R, wanted: Heard) -> bool {
-        let (from, letter) = self.desk.receive(rt);
-        heard_of(from, &letter.message) == wanted
-    }
-
-    // The next letters are of rank 0 and say this.
-    fn are_told<R: Wait + Copy>(&mut self, rt: &R, wanted: &[Heard]) -> bool {
-        for wanted in wanted {
-            if !self.is_told(rt, *wanted) {
-                return false;
-            }
-        }
-        true
-    }
-}
-
-/// The numbers of a run of two ranks and a server.
-pub fn two_ranks() -> Result<Config, Fail>
-    ensures { IfOk result (λ c. (c.servers ≡ 1) × (c.ranks ≡ 2)) }
-{
-    Ok(Config::new(2, 1, 64)?)
-}
-
 // A call of rank 0.
-#[derive(Clone, Copy)]
 enum Does {
     // Puts a unit of one byte.
     Put,
-    // Reserves a unit and spends its handle.
+    // Reserves a unit and leaves it.
     Reserve,
     // Reserves a unit and fetches its bytes.
     Work,
@@ -184,148 +34,46 @@ enum Does {
 }
 
 // What the rank is told.
-#[derive(Clone, Copy, PartialEq, Eq)]
+#[derive(Clone, Copy, PartialEq)]
 enum Told {
-    Fine,
-    // The bytes `c` with the common part `ab`.
-    Bytes,
-    Exhausted,
-    Memory,
-    TooLong { stamp: u64 },
-    Other,
+    Put(Result<(), PutFault>),
+    // Whether it got the bytes `c` with the common part `ab`.
+    Took(Result<bool, EndFault>),
 }
 
-fn told_of_put(put: Result<(), PutFault>) -> Told {
-    match put {
-        Ok(()) => Told::Fine,
-        Err(PutFault::Exhausted) => Told::Exhausted,
-        Err(PutFault::Memory) => Told::Memory,
-        Err(PutFault::TooLong { stamp }) => Told::TooLong { stamp },
-        Err(_) => Told::Other,
-    }
-}
-
-fn told_of_end(fault: EndFault) -> Told {
-    match fault {
-        EndFault::Exhausted => Told::Exhausted,
-        EndFault::Memory => Told::Memory,
-        EndFault::TooLong { stamp } => Told::TooLong { stamp },
-        EndFault::NoMoreWork => Told::Other,
-    }
-}
-
-fn put<A: Adlb>(link: &mut A, alloc: Global) -> Result<(), PutFault>
+fn took<A: Adlb>(link: &mut A, fetches: bool) -> Result<bool, EndFault>
     requires { has_finished (A.link link.old).said ≡ false }
     ensures { has_finished (A.link link.new).said ≡ false }
 {
-    match Payload::copy(alloc, b"a".as_slice()) {
-        Ok(body) => link.put(WorkType(1), 0, Target::Any, None, body),
-        Err(NoMemory) => Err(PutFault::Memory),
+    match take(link, fetches)? {
+        Some(body) => Ok(body.runs() == (b"ab".as_slice(), b"c".as_slice())),
+        None => Ok(false),
     }
 }
 
-fn reserve<A: Adlb>(link: &mut A) -> Result<Handle, EndFault>
-    requires { has_finished (A.link link.old).said ≡ false }
-    ensures running { has_finished (A.link link.new).said ≡ false }
-    ensures granted { IfOk result (λ note. granted note (A.link link.new).said) }
-    ensures once { IfOk result (λ note. is_fetched note.id (A.link link.new).said ≡ false) }
-{
-    link.reserve(&Types::any())
-}
-
-fn reserve_and_spend<A: Adlb>(link: &mut A) -> Told
-    requires { has_finished (A.link link.old).said ≡ false }
-    ensures { has_finished (A.link link.new).said ≡ false }
-{
-    match reserve(link) {
-        Ok(handle) => {
-            let _ = handle.spend();
-            Told::Fine
-        }
-        Err(fault) => told_of_end(fault),
-    }
-}
-
-fn work<A: Adlb>(link: &mut A) -> Told
-    requires { has_finished (A.link link.old).said ≡ false }
-    ensures { has_finished (A.link link.new).said ≡ false }
-{
-    match reserve(link) {
-        Ok(handle) => fetch(link, handle),
-        Err(fault) => told_of_end(fault),
-    }
-}
-
-fn fetch<A: Adlb>(link: &mut A, handle: Handle) -> Told
-    requires running { has_finished (A.link link.old).said ≡ false }
-    requires granted { granted handle (A.link link.old).said }
-    requires once { is_fetched handle.id (A.link link.old).said ≡ false }
-    ensures { has_finished (A.link link.new).said ≡ false }
-{
-    match link.get_reserved(handle) {
-        Ok(body) => told_of_body(&body),
-        Err((handle, _)) => {
-            let _ = handle.spend();
-            Told::Other
-        }
-    }
-}
-
-fn told_of_body(body: &Body) -> Told {
-    if body.runs() == (b"ab".as_slice(), b"c".as_slice()) {
-        return Told::Bytes;
-    }
-    Told::Other
-}
-
-fn begin_batch<A: Adlb>(link: &mut A, alloc: Global) -> Result<(), PutFault>
-    requires { has_finished (A.link link.old).said ≡ false }
-    ensures { has_finished (A.link link.new).said ≡ false }
-{
-    if link.batch_open() {
-        return Err(PutFault::Rejected);
-    }
-    match Payload::copy(alloc, b"xy".as_slice()) {
-        Ok(common) => link.begin_batch(common),
-        Err(NoMemory) => Err(PutFault::Memory),
-    }
-}
-
-fn told_of_call<A: Adlb>(link: &mut A, alloc: Global, does: Does) -> Told
+fn told_of_call<A: Adlb>(link: &mut A, alloc: Global, does: &Does) -> Told
     requires { has_finished (A.link link.old).said ≡ false }
     ensures { has_finished (A.link link.new).said ≡ false }
 {
     match does {
-        Does::Put => told_of_put(put(link, alloc)),
-        Does::Reserve => reserve_and_spend(link),
-        Does::Work => work(link),
-        Does::BeginBatch => told_of_put(begin_batch(link, alloc)),
+        Does::Put => Told::Put(put(alloc, link, Target::Any)),
+        Does::Reserve => Told::Took(took(link, false)),
+        Does::Work => Told::Took(took(link, true)),
+        Does::BeginBatch => Told::Put(begin(alloc, link)),
     }
 }
 
-// How many calls were answered, if each is told what is written beside it.
-fn are_told<A: Adlb>(link: &mut A, alloc: Global, calls: &[(Does, Told)]) -> Option<usize>
+// Each call is told what is written beside it.
+fn are_told<A: Adlb>(link: &mut A, alloc: Global, calls: &[(Does, Told)]) -> bool
     requires { has_finished (A.link link.old).said ≡ false }
     ensures { has_finished (A.link link.new).said ≡ false }
 {
-    let mut answered: usize = 0;
     for (does, wanted) in calls {
-        let told = told_of_call(link, alloc, *does);
-        if told != *wanted {
-            return None;
+        if told_of_call(link, alloc, does) != *wanted {
+            return false;
         }
-        answered = answered.saturating_add(answers(told));
     }
-    Some(answered)
-}
-
-// How many calls were answered, if the last one of them was told this.
-fn answers(told: Told) -> usize {
-    match told {
-        Told::Memory | Told::TooLong { .. } => 0,
-        Told::Fine | Told::Exhausted | Told::Other => 1,
-        Told::Bytes => 2,
-    }
+    true
 }
 
 // Rank 0 passes these points in its next calls, and no others.
@@ -344,207 +92,225 @@ fn passed<R: Wait + Copy>(
 }
 
 // A rank's calls, and all that is seen of them.
-#[derive(Clone, Copy)]
 struct Play<'a> {
     shows: &'static str,
-    says: &'a [Says],
+    says: &'a [Line],
     calls: &'a [(Does, Told)],
     passes: &'a [GatePoint],
-    heard: &'a [Heard],
-    leaves: Leaves,
+    // What the servers hear before the rank's last letter to each, and this letter.
+    heard: &'a [(u32, Heard)],
+    last: Option<Heard>,
+    fault: Option<ActorFault>,
+    // How many there are in the journal; none if a batch is going on, in which the link has no end.
+    entries: Option<u64>,
 }
 
-// What a link leaves, and how many calls were answered.
+// The part of a rank that makes these calls. Where its gate tells what it sees.
 #[derive(Clone, Copy)]
-enum Leaves {
-    // A batch is going on, in which the link has no end.
-    Open,
-    Well(usize),
-    Failed(ActorFault, usize),
+struct Calls<'a> {
+    play: &'a Play<'a>,
+    seen: &'a Sender<(u32, GatePoint), Global>,
 }
 
-fn is_left<M: Mailing>(end: &LinkEnd<M>, answered: usize, leaves: Leaves) -> bool {
-    let (fault, said) = match leaves {
-        Leaves::Open => return false,
-        Leaves::Well(said) => (None, said),
-        Leaves::Failed(fault, said) => (Some(fault), said),
-    };
-    // Finish is answered as well, if nothing failed.
-    let finished = if end.fault.is_none() { 1 } else { 0 };
-    end.fault == fault && answered.saturating_add(finished) == said
+impl Part for Calls<'_> {
+    ghost at = { λ part number. number < 3 };
+
+    fn last(&self, number: u32) -> Option<Heard> {
+        if number < POOL {
+            return None;
+        }
+        self.play.last
+    }
+
+    fn play<R: Wait + Copy, M: Mailing>(
+        &self,
+        rt: R,
+        alloc: Global,
+        config: Config,
+        number: u32,
+        desk: Desk<M>,
+        others: &mut Others<M>,
+    ) -> Result<bool, NoMemory> {
+        let seen = or_no_memory(self.seen.clone())?;
+        let link = Link::<R, M>::new(alloc, rt, config, Rank(number), desk, SeenGate { rt, seen })?;
+        is_told(alloc, link, self.play, others)
+    }
 }
 
-// The link, which has answered this number of calls, leaves this at its end; if a batch is going on, it leaves nothing.
-fn is_end<R: Wait + Copy, M: Mailing>(link: Link<R, M>, answered: usize, leaves: Leaves) -> bool
+// The calls of the link, which has made none, are told what the play says.
+fn is_told<R: Wait + Copy, M: Mailing>(
+    alloc: Global,
+    link: Link<R, M>,
+    play: &Play,
+    others: &mut Others<M>,
+) -> Result<bool, NoMemory>
+    requires { link.core.transcript ≡ [] }
+{
+    let mut link = link;
+    let told = are_told(&mut link, alloc, play.calls);
+    Ok(is_left(link, play, others)? && told)
+}
+
+// The link leaves what the play says, or nothing if a batch is going on.
+fn is_left<R: Wait + Copy, M: Mailing>(
+    link: Link<R, M>,
+    play: &Play,
+    others: &mut Others<M>,
+) -> Result<bool, NoMemory>
     requires { has_finished link.core.transcript ≡ false }
 {
     if link.batch_open() {
-        return matches!(leaves, Leaves::Open);
+        return Ok(play.entries.is_none());
     }
-    let end = link.end();
-    is_left(&end, answered, leaves)
+    has_ended(link.end(), play.fault, others)
 }
 
-fn is_played<R: Wait + Copy>(rt: R, alloc: Global, play: &Play) -> Result<bool, Fail> {
-    is_played_over::<R, Brand>(rt, alloc, play, Mail::new(alloc)?)
+// The link has left this, with its desk.
+fn has_ended<M: Mailing>(
+    end: LinkEnd<M>,
+    wanted: Option<ActorFault>,
+    others: &mut Others<M>,
+) -> Result<bool, NoMemory> {
+    let LinkEnd { fault, desk, .. } = end;
+    others.put_back(desk)?;
+    Ok(fault == wanted)
 }
 
-fn is_played_over<R: Wait + Copy, M: Mailing>(
-    rt: R,
-    alloc: Global,
-    play: &Play,
-    mail: Mail,
-) -> Result<bool, Fail>
-    requires mail { M.places ≡ places_of mail.inboxes.items }
-{
-    let config = two_ranks()?;
-    let Three {
-        first,
-        second,
-        third,
-    } = three_desks::<M>(alloc, config, mail)?;
-    drop(second);
-    let mut host = Host { desk: third };
-    let played = is_played_with(rt, alloc, config, first, &mut host, play);
-    drop(host);
-    played
-}
-
-// The server says what the play has, and the rank at this desk then makes its calls.
-fn is_played_with<R: Wait + Copy, M: Mailing>(
-    rt: R,
-    alloc: Global,
-    config: Config,
-    desk: Desk<M>,
-    host: &mut Host<M>,
-    play: &Play,
-) -> Result<bool, Fail>
-    requires desk { IsNew config 0 desk }
-    requires ranks { config.ranks ≡ 2 }
-{
-    host.say_all(&rt, alloc, play.says)?;
-    Ok(is_played_at(rt, alloc, config, desk, play)? && host.are_told(&rt, play.heard))
-}
-
-// The calls of the rank at this desk are told, the points are passed and its end is left as the play says.
-fn is_played_at<R: Wait + Copy, M: Mailing>(
-    rt: R,
-    alloc: Global,
-    config: Config,
-    desk: Desk<M>,
-    play: &Play,
-) -> Result<bool, Fail>
-    requires desk { IsNew config 0 desk }
-    requires ranks { config.ranks ≡ 2 }
-{
+fn is_shown<R: Wait + Copy>(rt: R, alloc: Global, play: &Play) -> Result<bool, Fail> {
+    let script = Script {
+        number: 0,
+        alone: false,
+        said: play.says,
+        then: &[],
+        after: &[],
+        heard: play.heard,
+        entries: play.entries,
+    };
     let (seen, points) = bounded(alloc, 16)?;
-    let gate = SeenGate { rt, seen };
-    let mut link = ThreadedLink::new(alloc, rt, config, Rank(0), desk, gate)?;
-    let told = are_told(&mut link, alloc, play.calls);
-    let left = is_end(link, told.unwrap_or(0), play.leaves);
-    Ok(told.is_some() && left && passed(&rt, &points, play.passes))
+    let part = Calls { play, seen: &seen };
+    Ok(is_played(rt, alloc, &script, &part)? && passed(&rt, &points, play.passes))
 }
 
-const LATE: u64 = 1 << 48;
+// Server 0 sent a letter that was not expected.
+const STRANGE: ActorFault = ActorFault::Unexpected { from: POOL };
 
-const TOO_LONG: Trouble = Trouble::TooLong { stamp: LATE };
+const FINE: Told = Told::Put(Ok(()));
 
-// The server, actor 2, sent a letter that was not expected.
-const STRANGE: ActorFault = ActorFault::Unexpected { from: 2 };
+const LATE_PUT: Told = Told::Put(Err(PutFault::TooLong { stamp: STAMP_LIMIT }));
 
 const PLAYS: &[Play] = &[
     Play {
         shows: "a put is accepted, and each server hears of Finish",
-        says: &[Says::Accepted { request: 0 }],
-        calls: &[(Does::Put, Told::Fine)],
+        says: &[(POOL, 7, Says::Accepted(0))],
+        calls: &[(Does::Put, FINE)],
         passes: &[GatePoint::Put { call: 0 }],
-        heard: &[Heard::Put, Heard::Finish],
-        leaves: Leaves::Well(2),
+        heard: &[(POOL, Heard::Put)],
+        last: Some(Heard::Finish),
+        fault: None,
+        entries: Some(2),
     },
     Play {
         shows: "a unit is granted and fetched, and the gate is passed",
         says: &[
-            Says::GrantedInBatch { request: 0 },
-            Says::Own { request: 1 },
-            Says::Common { request: 1 },
+            (POOL, 7, Says::GrantedInBatch(0)),
+            (POOL, 7, Says::Bytes(1, b"c")),
+            (POOL, 7, Says::Bytes(1, b"ab")),
         ],
-        calls: &[(Does::Work, Told::Bytes)],
+        calls: &[(Does::Work, Told::Took(Ok(true)))],
         passes: &[
             GatePoint::Waiting { call: 0 },
             GatePoint::Granted { call: 0 },
             GatePoint::Fetched { call: 1 },
         ],
-        heard: &[],
-        leaves: Leaves::Well(3),
+        heard: &[
+            (POOL, Heard::Other),
+            (POOL, Heard::Other),
+            (POOL, Heard::Other),
+        ],
+        last: Some(Heard::Finish),
+        fault: None,
+        entries: Some(3),
     },
     Play {
         shows: "an end is told again without a letter",
-        says: &[Says::Exhausted { request: 0 }],
+        says: &[(POOL, 7, Says::Exhausted(0))],
         calls: &[
-            (Does::Reserve, Told::Exhausted),
-            (Does::Reserve, Told::Exhausted),
-            (Does::Put, Told::Exhausted),
+            (Does::Reserve, Told::Took(Err(EndFault::Exhausted))),
+            (Does::Reserve, Told::Took(Err(EndFault::Exhausted))),
+            (Does::Put, Told::Put(Err(PutFault::Exhausted))),
         ],
         passes: &[
             GatePoint::Waiting { call: 0 },
             GatePoint::Waiting { call: 1 },
         ],
-        heard: &[Heard::Other, Heard::Finish],
-        leaves: Leaves::Well(4),
+        heard: &[(POOL, Heard::Other)],
+        last: Some(Heard::Finish),
+        fault: None,
+        entries: Some(6),
     },
     Play {
         shows: "a failed server is told once, and the rank is gone",
-        says: &[Says::Broken { stamp: LATE }],
-        calls: &[
-            (Does::Put, Told::TooLong { stamp: LATE }),
-            (Does::Put, Told::TooLong { stamp: LATE }),
-        ],
+        says: &[(POOL, 7, Says::Broken(TOO_LONG))],
+        calls: &[(Does::Put, LATE_PUT), (Does::Put, LATE_PUT)],
         passes: &[],
-        heard: &[Heard::Put, Heard::Gone(TOO_LONG)],
-        leaves: Leaves::Failed(ActorFault::TooLong { stamp: LATE }, 0),
+        heard: &[(POOL, Heard::Put)],
+        last: Some(Heard::Gone(TOO_LONG)),
+        fault: Some(ActorFault::TooLong { stamp: STAMP_LIMIT }),
+        entries: Some(1),
     },
     Play {
         shows: "a stamp that is not too long is not told",
-        says: &[Says::Broken { stamp: 5 }],
-        calls: &[(Does::Put, Told::Memory)],
+        says: &[(POOL, 7, Says::Broken(Trouble::TooLong { stamp: 5 }))],
+        calls: &[(Does::Put, Told::Put(Err(PutFault::Memory)))],
         passes: &[],
-        heard: &[],
-        leaves: Leaves::Failed(ActorFault::Memory, 0),
+        heard: &[(POOL, Heard::Put)],
+        last: Some(Heard::Gone(Trouble::Memory)),
+        fault: Some(ActorFault::Memory),
+        entries: Some(1),
     },
     Play {
         shows: "a letter that is not expected is kept",
-        says: &[Says::Accepted { request: 4 }],
-        calls: &[(Does::Put, Told::Memory)],
+        says: &[(POOL, 7, Says::Accepted(4))],
+        calls: &[(Does::Put, Told::Put(Err(PutFault::Memory)))],
         passes: &[],
-        heard: &[],
-        leaves: Leaves::Failed(STRANGE, 0),
+        heard: &[(POOL, Heard::Put)],
+        last: Some(Heard::Gone(Trouble::Memory)),
+        fault: Some(STRANGE),
+        entries: Some(1),
     },
     Play {
         shows: "a unit is not granted twice",
-        says: &[Says::Granted { request: 0 }, Says::Granted { request: 1 }],
-        calls: &[(Does::Reserve, Told::Fine), (Does::Reserve, Told::Memory)],
+        says: &[(POOL, 7, Says::Granted(0)), (POOL, 7, Says::Granted(1))],
+        calls: &[
+            (Does::Reserve, Told::Took(Ok(false))),
+            (Does::Reserve, Told::Took(Err(EndFault::Memory))),
+        ],
         passes: &[
             GatePoint::Waiting { call: 0 },
             GatePoint::Granted { call: 0 },
             GatePoint::Waiting { call: 1 },
         ],
-        heard: &[],
-        leaves: Leaves::Failed(STRANGE, 1),
+        heard: &[(POOL, Heard::Other), (POOL, Heard::Other)],
+        last: Some(Heard::Gone(Trouble::Memory)),
+        fault: Some(STRANGE),
+        entries: Some(2),
     },
     Play {
         shows: "a batch is going on after its beginning",
-        says: &[Says::Accepted { request: 0 }],
-        calls: &[(Does::BeginBatch, Told::Fine)],
+        says: &[(POOL, 7, Says::Accepted(0))],
+        calls: &[(Does::BeginBatch, FINE)],
         passes: &[],
-        heard: &[Heard::KeepCommon],
-        leaves: Leaves::Open,
+        heard: &[(POOL, Heard::Keep)],
+        last: None,
+        fault: None,
+        entries: None,
     },
 ];
 
 #[test]
 fn calls_are_told_what_their_server_said(rt: HostRuntime) -> Result<(), Fail> {
     for play in PLAYS {
-        assert!(rt; is_played(rt, rt.alloc(), play)?, "{}", play.shows);
+        assert!(rt; is_shown(rt, rt.alloc(), play)?, "{}", play.shows);
     }
     Ok(())
 }

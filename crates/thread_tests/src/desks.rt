@@ -1,54 +1,50 @@
-//! The desks of one rank, one server and whoever made the run.
+//! What a desk enters and sends, and the end of all desks.
 
-ghost use Rattle.std.specs.Prelude.{◌≡◌, ◌≤◌, ◌<◌, ◌^◌, ℕ, length, map, Some, slice_get};
+ghost use Rattle.std.specs.Prelude.{◌≡◌, ◌≤◌, ◌<◌, ◌+◌, ◌^◌, ℕ, length, map, Some, slice_get};
 ghost use Rattle.core_run.specs.World.{actors};
-ghost use Rattle.rank_mail.specs.Mailboxes.{PostModel, fresh_inbox, fresh_post, places_of};
+ghost use Rattle.actor_desk.specs.Desks.{IsNew};
+ghost use Rattle.rank_mail.specs.Mailboxes.{PostModel, fresh_inbox, fresh_post};
 
-use crate::mail::{Mail, send, three_desks};
+use crate::cast::{Others, POOL};
+use crate::heard::Heard;
+use crate::parts::{Part, Script, is_played};
+use crate::says::Says;
 use actor_desk::{Desk, Mailing, clear, desks, got};
-use adlb_unit::{Actor, Config, Message, NoMemory, Rank, Server};
+use adlb_unit::{Actor, Config, NoMemory, Rank};
 use rank_mail::{Inbox, Post, mailboxes};
 use std::alloc::Global;
 use std::marker::Brand;
 use std::sync::Wait;
 use std::test::Fail;
 
-#[test]
-fn an_event_sends_its_letter(rt: HostRuntime) -> Result<(), Fail> {
-    assert_eq!(rt; one_letter(rt, rt.alloc())?, (0, 7));
-    Ok(())
+// The part of server 0 that receives a letter and enters that.
+#[derive(Clone, Copy)]
+struct Hears {
+    from: u32,
+    stamp: u64,
 }
 
-fn one_letter<R: Wait + Copy>(rt: R, alloc: Global) -> Result<(u32, u64), Fail> {
-    one_letter_over::<R, Brand>(rt, alloc, Mail::new(alloc)?)
-}
+impl Part for Hears {
+    ghost at = { λ part number. Unit {0} };
 
-fn one_letter_over<R: Wait + Copy, M: Mailing>(
-    rt: R,
-    alloc: Global,
-    mail: Mail,
-) -> Result<(u32, u64), Fail>
-    requires mail { M.places ≡ places_of mail.inboxes.items }
-{
-    let config = Config::new(1, 1, 64)?;
-    let mut all = three_desks::<M>(alloc, config, mail)?;
-    let carried = carried(&rt, alloc, &mut all.first, &mut all.second);
-    drop(all);
-    Ok(carried?)
-}
+    fn last(&self, _number: u32) -> Option<Heard> {
+        None
+    }
 
-// The rank sends a letter to the server, which receives it, and enters that. These are the letter's sender and its stamp.
-fn carried<R: Wait, M: Mailing>(
-    rt: &R,
-    alloc: Global,
-    rank: &mut Desk<M>,
-    server: &mut Desk<M>,
-) -> Result<(u32, u64), NoMemory> {
-    let to = Actor::Server(Server(0));
-    let sent = send(rt, alloc, rank, to, 7, Message::Finish);
-    rank.tell(rt, to, Message::Finish);
-    let heard = hear(rt, alloc, server);
-    sent.and(heard)
+    fn play<R: Wait + Copy, M: Mailing>(
+        &self,
+        rt: R,
+        alloc: Global,
+        _config: Config,
+        _number: u32,
+        desk: Desk<M>,
+        others: &mut Others<M>,
+    ) -> Result<bool, NoMemory> {
+        let mut server = desk;
+        let heard = hear(&rt, alloc, &mut server);
+        others.put_back(server)?;
+        Ok(heard? == (self.from, self.stamp))
+    }
 }
 
 // The next letter, which is entered: its sender and its stamp.
@@ -68,10 +64,25 @@ fn hear<R: Wait, M: Mailing>(
 }
 
 #[test]
+fn an_event_sends_its_letter(rt: HostRuntime) -> Result<(), Fail> {
+    let script = Script {
+        number: POOL,
+        alone: false,
+        said: &[(0, 7, Says::Finish), (0, 8, Says::Finish)],
+        then: &[],
+        after: &[],
+        heard: &[],
+        entries: Some(0),
+    };
+    assert!(rt; is_played(rt, rt.alloc(), &script, &Hears { from: 0, stamp: 7 })?);
+    Ok(())
+}
+
+#[test]
 fn three_desks_are_cleared(rt: HostRuntime) -> Result<(), Fail> {
     let config = Config::new(1, 1, 64)?;
     let (posts, inboxes) = mailboxes(rt.alloc(), 3, 4)?;
-    assert_eq!(rt; cleared::<Brand>(rt.alloc(), config, posts, inboxes)?, 3);
+    assert!(rt; cleared::<Brand>(rt.alloc(), config, posts, inboxes)? == 3);
     Ok(())
 }
 

@@ -1,4 +1,4 @@
-//! Ranks and servers in threads, by example, and journals and their merge.
+//! Ranks and servers in threads, by example, and journals and their merge; and those in which an actor fails.
 //!
 //! It holds tests alone, of `rank_mail`, `actor_desk`, `thread_client`, `thread_server` and `adlb_threads`. They show
 //! that letters arrive in order, and what a desk enters and sends. A rank's calls are told what its server said
@@ -6,22 +6,36 @@
 //! end well, or with what went wrong. Of `merge_history`, what a client and a server that are stepped by hand keep
 //! merges to a legal ledger. What many actors keep of events of pseudo-random numbers and stamps merges to what a sort
 //! makes of it.
+//!
+//! One actor of a run is tried at its desk, and a script says all letters of the others: `parts` is where that is done.
 #![tactic(auto)]
 
 #[cfg(test)]
 mod calls;
 #[cfg(test)]
+mod cast;
+#[cfg(test)]
 mod desks;
+#[cfg(test)]
+mod faults;
+#[cfg(test)]
+mod gates;
+#[cfg(test)]
+mod heard;
 #[cfg(test)]
 mod keeping;
 #[cfg(test)]
-mod mail;
-#[cfg(test)]
 mod mailboxes;
+#[cfg(test)]
+mod parts;
+#[cfg(test)]
+mod programs;
 #[cfg(test)]
 mod ranks;
 #[cfg(test)]
 mod runs;
+#[cfg(test)]
+mod says;
 #[cfg(test)]
 mod servers;
 #[cfg(test)]

@@ -36,37 +36,6 @@ fn send_one<R: Wait>(rt: &R, post: &mut Post, to: u32, place: u64) -> bool {
     true
 }
 
-// Two letters that are sent to actor 1 arrive in order, from actor 0.
-fn two_arrive<R: Wait>(rt: &R, post: &mut Post, inbox: &mut Inbox) -> bool {
-    let sent = send_one(rt, post, 1, 0) && send_one(rt, post, 1, 1);
-    sent && is_next(rt, inbox, 0) && is_next(rt, inbox, 1)
-}
-
-fn is_next<R: Wait>(rt: &R, inbox: &mut Inbox, place: u64) -> bool {
-    let (from, letter) = inbox.receive(rt);
-    from == 0 && letter.place == place
-}
-
-#[test]
-fn two_letters_arrive_in_order(rt: HostRuntime) -> Result<(), Fail> {
-    let (mut posts, mut inboxes) = mailboxes(rt.alloc(), 2, 4)?;
-    assert!(rt; two_arrive(&rt, &mut posts[0], &mut inboxes[1]));
-    Ok(())
-}
-
-// Sends letters to the receivers in turn; to each their places rise from 0.
-fn send_all<R: Wait + Clock>(rt: &R, mut post: Post, pauses: bool) -> bool {
-    for number in 0..SENT {
-        if !send_one(rt, &mut post, (number % 4) as u32, number / 4) {
-            return false;
-        }
-        if pauses && number % 500 == 0 {
-            thread::sleep(rt, Duration::from_micros(200));
-        }
-    }
-    true
-}
-
 // The places of the next letters, by their senders.
 #[derive(Drop)]
 struct Next {
@@ -74,6 +43,12 @@ struct Next {
 }
 
 impl Next {
+    fn new() -> Next {
+        Next {
+            places: [0; ACTORS as usize],
+        }
+    }
+
     // The letter is the next of its sender.
     fn is(&mut self, from: u32, letter: &Letter) -> bool {
         match self.places.get_mut(from as usize) {
@@ -86,49 +61,91 @@ impl Next {
     }
 }
 
+// The next letter is the next of its sender.
+fn is_next<R: Wait>(rt: &R, inbox: &mut Inbox, next: &mut Next) -> bool {
+    let (from, letter) = inbox.receive(rt);
+    next.is(from, &letter)
+}
+
+// Two letters that are sent to actor 1 arrive in order, from actor 0.
+fn two_arrive<R: Wait>(rt: &R, post: &mut Post, inbox: &mut Inbox) -> bool {
+    let mut next = Next::new();
+    send_one(rt, post, 1, 0)
+        && send_one(rt, post, 1, 1)
+        && is_next(rt, inbox, &mut next)
+        && is_next(rt, inbox, &mut next)
+        && next.places[0] == 2
+}
+
+#[test]
+fn two_letters_arrive_in_order(rt: HostRuntime) -> Result<(), Fail> {
+    let (mut posts, mut inboxes) = mailboxes(rt.alloc(), 2, 4)?;
+    assert!(rt; two_arrive(&rt, &mut posts[0], &mut inboxes[1]));
+    Ok(())
+}
+
+// Sends letters to the receivers in turn; to each their places rise from 0.
+fn send_all<R: Wait + Clock>(rt: &R, post: &mut Post, pauses: bool) -> bool {
+    for number in 0..SENT {
+        if !send_one(rt, post, (number % 4) as u32, number / 4) {
+            return false;
+        }
+        if pauses && number % 500 == 0 {
+            thread::sleep(rt, Duration::from_micros(200));
+        }
+    }
+    true
+}
+
 // Receives all letters. Those of each sender come in order, each once.
-fn receive_all<R: Wait>(rt: &R, mut inbox: Inbox) -> bool {
-    let mut next = Next {
-        places: [0; ACTORS as usize],
-    };
+fn receive_all<R: Wait>(rt: &R, inbox: &mut Inbox) -> bool {
+    let mut next = Next::new();
     for _ in 0..RECEIVED {
-        let (from, letter) = inbox.receive(rt);
-        if !next.is(from, &letter) {
+        if !is_next(rt, inbox, &mut next) {
             return false;
         }
     }
     true
 }
 
-// Starts a thread for each receiver.
-fn start_receivers<R: Threads + Wait + Copy + Send + 'static>(
+// What the thread of the actor of this number does: it receives, or it sends.
+fn work<R: Wait + Clock>(rt: &R, number: usize, post: Post, inbox: Inbox, pauses: bool) -> bool {
+    let (mut post, mut inbox) = (post, inbox);
+    if number < RECEIVERS as usize {
+        receive_all(rt, &mut inbox)
+    } else {
+        send_all(rt, &mut post, pauses)
+    }
+}
+
+// Starts a thread for each actor, the last first.
+fn start_all<R: Threads + Wait + Clock + Copy + Send + 'static>(
     rt: R,
     threads: &mut Vec<JoinHandle<bool>>,
-    inboxes: Vec<Inbox>,
+    posts: &mut Vec<Post>,
+    inboxes: &mut Vec<Inbox>,
+    pauses: bool,
 ) -> Result<(), Fail> {
-    for (number, inbox) in inboxes.into_iter().enumerate() {
-        if number < RECEIVERS as usize {
-            let started = thread::spawn(&rt, move || receive_all(&rt, inbox));
-            threads.push(started.ok().ok_or("thread")?)?;
-        }
+    for _ in 0..ACTORS {
+        let post = posts.pop().ok_or("post")?;
+        let inbox = inboxes.pop().ok_or("inbox")?;
+        threads.push(start(rt, posts.len(), post, inbox, pauses)?)?;
     }
     Ok(())
 }
 
-// Starts a thread for each sender.
-fn start_senders<R: Threads + Wait + Clock + Copy + Send + 'static>(
+// Starts a thread for the actor of this number.
+fn start<R: Threads + Wait + Clock + Copy + Send + 'static>(
     rt: R,
-    threads: &mut Vec<JoinHandle<bool>>,
-    posts: Vec<Post>,
+    number: usize,
+    post: Post,
+    inbox: Inbox,
     pauses: bool,
-) -> Result<(), Fail> {
-    for (number, post) in posts.into_iter().enumerate() {
-        if number >= RECEIVERS as usize {
-            let started = thread::spawn(&rt, move || send_all(&rt, post, pauses));
-            threads.push(started.ok().ok_or("thread")?)?;
-        }
+) -> Result<JoinHandle<bool>, Fail> {
+    match thread::spawn(&rt, move || work(&rt, number, post, inbox, pauses)) {
+        Ok(started) => Ok(started),
+        Err(_) => Err("thread".into()),
     }
-    Ok(())
 }
 
 // Each thread ends, and answers that it is so.
@@ -146,10 +163,9 @@ fn all_arrive<R: Threads + Wait + Clock + Copy + Send + 'static>(
     alloc: Global,
     pauses: bool,
 ) -> Result<bool, Fail> {
-    let (posts, inboxes) = mailboxes(alloc, ACTORS, 4)?;
+    let (mut posts, mut inboxes) = mailboxes(alloc, ACTORS, 4)?;
     let mut threads = Vec::new(alloc);
-    start_receivers(rt, &mut threads, inboxes)?;
-    start_senders(rt, &mut threads, posts, pauses)?;
+    start_all(rt, &mut threads, &mut posts, &mut inboxes, pauses)?;
     Ok(all_end_well(&rt, threads))
 }
 

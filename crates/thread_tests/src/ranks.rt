@@ -1,121 +1,119 @@
 //! What a rank's thread leaves.
 
-ghost use Rattle.std.specs.Prelude.{◌≡◌, []};
+ghost use Rattle.std.specs.Prelude.{◌≡◌, ◌<◌, ◌+◌};
 ghost use Rattle.actor_desk.specs.Desks.{IsNew};
-ghost use Rattle.rank_mail.specs.Mailboxes.{places_of};
 
-use crate::calls::{Heard, Host, two_ranks};
-use crate::mail::{Mail, Three, three_desks};
+use crate::cast::{Others, POOL};
+use crate::heard::Heard;
+use crate::parts::{Fault, Part, Script, is_played};
+use crate::programs::{Plan, Worker};
+use crate::says::Line;
 use actor_desk::{Desk, Mailing};
 use adlb_io::FreeGate;
 use adlb_unit::{Config, NoMemory, Rank, Trouble};
-use rank_client::{Adlb, RankProgram};
 use std::alloc::Global;
-use std::marker::Brand;
 use std::sync::Wait;
 use std::test::Fail;
 use thread_client::{ActorFault, RankEnd, RankJob};
 
-// A program that makes no call.
-#[derive(Drop)]
-struct Idle {
-    fails: bool,
+/// What the servers hear before the rank's last letter to each, this letter, and how many entries its journal has.
+pub type Left<'a> = (&'a [(u32, Heard)], Heard, u64);
+
+/// What rank 0 does, what it is told, what it leaves, its outcome, and its fault.
+pub type Row<'a> = (Plan, &'a [Line], Left<'a>, Option<u32>, Fault);
+
+// The part of a rank, with its last letter to each server, its outcome and its fault.
+#[derive(Clone, Copy)]
+struct Runs {
+    plan: Plan,
+    last: Heard,
+    outcome: Option<u32>,
+    fault: Fault,
 }
 
-impl RankProgram for Idle {
-    type Outcome = u32;
+impl Part for Runs {
+    ghost at = { λ part number. number < 3 };
 
-    ghost follows = { λ program rank said outcome. (said ≡ []) × (outcome ≡ 5) };
+    fn last(&self, number: u32) -> Option<Heard> {
+        (number >= POOL).then_some(self.last)
+    }
 
-    fn run<A: Adlb>(&self, _rank: Rank, _link: &mut A) -> Result<u32, Trouble> {
-        if self.fails {
-            return Err(Trouble::Memory);
-        }
-        Ok(5)
+    fn play<R: Wait + Copy, M: Mailing>(
+        &self,
+        rt: R,
+        alloc: Global,
+        config: Config,
+        number: u32,
+        desk: Desk<M>,
+        others: &mut Others<M>,
+    ) -> Result<bool, NoMemory> {
+        let plan = self.plan;
+        let program = Worker { alloc, plan };
+        let job = RankJob::new(alloc, rt, config, Rank(number), program, desk, FreeGate {})?;
+        has_ended(job.run(), self, others)
     }
 }
 
-// What rank 0 leaves that runs the program, and what the server hears of it first: Finish, if that is all that the rank said.
-#[derive(Clone, Copy)]
-struct Ended {
-    outcome: Option<u32>,
-    fault: Option<ActorFault>,
-    heard: Heard,
+// The rank has left this, with its desk.
+fn has_ended<M: Mailing>(
+    end: RankEnd<u32, M>,
+    wanted: &Runs,
+    others: &mut Others<M>,
+) -> Result<bool, NoMemory> {
+    let RankEnd {
+        outcome,
+        fault,
+        own,
+        desk,
+        ..
+    } = end;
+    others.put_back(desk)?;
+    Ok(outcome == wanted.outcome && fault == wanted.fault.0 && own == wanted.fault.1)
 }
 
-fn has_ended<M: Mailing>(end: &RankEnd<u32, M>, wanted: &Ended) -> bool {
-    end.outcome == wanted.outcome && end.fault == wanted.fault
+/// The rank leaves what the row says, and the other ranks hear nothing of it.
+pub fn is_left<R: Wait + Copy>(rt: R, alloc: Global, row: &Row) -> Result<bool, Fail> {
+    let (plan, told, (heard, last, entries), outcome, fault) = *row;
+    let script = Script {
+        number: 0,
+        alone: false,
+        said: told,
+        then: &[],
+        after: &[],
+        heard,
+        entries: Some(entries),
+    };
+    let part = Runs {
+        plan,
+        last,
+        outcome,
+        fault,
+    };
+    is_played(rt, alloc, &script, &part)
 }
 
-fn is_run<R: Wait + Copy>(rt: R, alloc: Global, fails: bool, wanted: &Ended) -> Result<bool, Fail> {
-    is_run_over::<R, Brand>(rt, alloc, fails, wanted, Mail::new(alloc)?)
-}
-
-fn is_run_over<R: Wait + Copy, M: Mailing>(
-    rt: R,
-    alloc: Global,
-    fails: bool,
-    wanted: &Ended,
-    mail: Mail,
-) -> Result<bool, Fail>
-    requires mail { M.places ≡ places_of mail.inboxes.items }
-{
-    let config = two_ranks()?;
-    let Three {
-        first,
-        second,
-        third,
-    } = three_desks::<M>(alloc, config, mail)?;
-    drop(second);
-    let mut host = Host { desk: third };
-    let run = is_run_at(rt, alloc, config, first, fails, wanted);
-    let told = run == Ok(true) && host.is_told(&rt, wanted.heard);
-    drop(host);
-    run?;
-    Ok(told)
-}
-
-// The rank at this desk runs the program, and leaves this.
-fn is_run_at<R: Wait + Copy, M: Mailing>(
-    rt: R,
-    alloc: Global,
-    config: Config,
-    desk: Desk<M>,
-    fails: bool,
-    wanted: &Ended,
-) -> Result<bool, NoMemory>
-    requires desk { IsNew config 0 desk }
-    requires ranks { config.ranks ≡ 2 }
-{
-    let program = Idle { fails };
-    let job = RankJob::new(alloc, rt, config, Rank(0), program, desk, FreeGate {})?;
-    Ok(has_ended(&job.run(), wanted))
-}
-
-/// Whether the program fails, and what its rank leaves.
-const ENDS: &[(bool, Ended)] = &[
+/// All that the rank says is its last letter.
+const ENDS: &[Row] = &[
     (
-        false,
-        Ended {
-            outcome: Some(5),
-            fault: None,
-            heard: Heard::Finish,
-        },
+        Plan::Rests,
+        &[],
+        (&[], Heard::Finish, 1),
+        Some(5),
+        (None, true),
     ),
     (
-        true,
-        Ended {
-            outcome: None,
-            fault: Some(ActorFault::Memory),
-            heard: Heard::Gone(Trouble::Memory),
-        },
+        Plan::Fails,
+        &[],
+        (&[], Heard::Gone(Trouble::Memory), 0),
+        None,
+        (Some(ActorFault::Memory), true),
     ),
 ];
 
 #[test]
 fn a_rank_has_an_outcome_or_is_gone(rt: HostRuntime) -> Result<(), Fail> {
-    for (fails, wanted) in ENDS {
-        assert!(rt; is_run(rt, rt.alloc(), *fails, wanted)?);
+    for row in ENDS {
+        assert!(rt; is_left(rt, rt.alloc(), row)?);
     }
     Ok(())
 }

@@ -1,180 +1,138 @@
-//! How the server of one rank ends.
+//! How a server ends.
 
-ghost use Rattle.std.specs.Prelude.{◌≡◌};
+ghost use Rattle.std.specs.Prelude.{◌≡◌, ◌≤◌, ◌<◌, ◌+◌};
 ghost use Rattle.actor_desk.specs.Desks.{IsNew};
-ghost use Rattle.rank_mail.specs.Mailboxes.{places_of};
 
-use crate::mail::{Mail, Three, send, three_desks};
+use crate::cast::{Others, POOL};
+use crate::heard::Heard;
+use crate::parts::{Fault, OWN, Part, Script, is_played};
+use crate::says::{LATE, Line, Says};
 use actor_desk::{Desk, Mailing};
-use adlb_unit::{Actor, Config, Message, NoMemory, Payload, STAMP_LIMIT, Server, Trouble, Types};
+use adlb_unit::{Config, NoMemory, Server, Trouble};
 use std::alloc::Global;
-use std::marker::Brand;
+use std::slice;
 use std::sync::Wait;
 use std::test::Fail;
 use thread_client::ActorFault;
 use thread_server::{ServerEnd, ServerJob};
 
-// What the rank sends.
-#[derive(Clone, Copy)]
-enum Sent {
-    // The bytes of a unit, which no rank sends, and then that it waits and that it is gone.
-    Strange,
-    // Its last letter, with this stamp.
-    Finish { stamp: u64 },
+/// What a server heard, and others heard of it, each by number. How many entries its journal has then.
+pub struct Scene<'a> {
+    pub me: u32,
+    pub alone: bool,
+    pub said: &'a [Line],
+    pub heard: &'a [(u32, Heard)],
+    pub entries: u64,
 }
 
-fn send_all<R: Wait + Copy, M: Mailing>(
-    rt: &R,
-    alloc: Global,
-    rank: &mut Desk<M>,
-    sent: Sent,
-) -> Result<(), NoMemory> {
-    let to = Actor::Server(Server(0));
-    match sent {
-        Sent::Strange => {
-            let body = Payload::copy(alloc, b"abc")?;
-            send(rt, alloc, rank, to, 1, Message::Bytes { request: 7, body })?;
-            let types = Types::any();
-            send(
-                rt,
-                alloc,
-                rank,
-                to,
-                1,
-                Message::Reserve { request: 0, types },
-            )?;
-            let trouble = Trouble::Memory;
-            send(rt, alloc, rank, to, 1, Message::Gone { trouble })
+/// What there is before a letter, this letter, and what comes after it. The server's fault, and the ranks that are told of it.
+pub type Row<'a> = (&'a Scene<'a>, Line, &'a [Line], Fault, &'a [u32]);
+
+// The part of a server with this fault, of which it tells these ranks, and the other server if there is one.
+#[derive(Clone, Copy)]
+struct Serves<'a> {
+    fault: Fault,
+    ranks: &'a [u32],
+}
+
+impl Part for Serves<'_> {
+    ghost at = { λ part number. 3 ≤ number };
+
+    fn last(&self, number: u32) -> Option<Heard> {
+        let trouble = self.fault.0?.told();
+        if number >= POOL {
+            return Some(Heard::Abort { trouble, absent: 0 });
         }
-        Sent::Finish { stamp } => send(rt, alloc, rank, to, stamp, Message::Finish),
+        self.ranks
+            .contains(&number)
+            .then_some(Heard::Broken(trouble))
+    }
+
+    fn play<R: Wait + Copy, M: Mailing>(
+        &self,
+        rt: R,
+        alloc: Global,
+        config: Config,
+        number: u32,
+        desk: Desk<M>,
+        others: &mut Others<M>,
+    ) -> Result<bool, NoMemory> {
+        let job = ServerJob::new(alloc, rt, config, Server(number - config.ranks), desk)?;
+        has_ended(job.run(), self.fault, others)
     }
 }
 
-// How the server ends.
-#[derive(Clone, Copy)]
-struct Wanted {
-    fault: Option<ActorFault>,
-    // What the rank is told, if it sent more than its last letter.
-    told: Option<Trouble>,
+// The server has left this, with its desk.
+fn has_ended<M: Mailing>(
+    end: ServerEnd<M>,
+    wanted: Fault,
+    others: &mut Others<M>,
+) -> Result<bool, NoMemory> {
+    let ServerEnd {
+        fault,
+        own,
+        desk,
+        ..
+    } = end;
+    others.put_back(desk)?;
+    Ok(fault == wanted.0 && own == wanted.1)
 }
 
-fn has_ended<M: Mailing>(end: &ServerEnd<M>, wanted: &Wanted) -> bool {
-    end.fault == wanted.fault
-}
-
-// What broke the server, if it tells so.
-fn broken(from: u32, message: &Message) -> Option<Trouble> {
-    match message {
-        Message::Broken { trouble } if from == 1 => Some(*trouble),
-        _ => None,
+/// The server ends as the row says, and tells whom the row says.
+pub fn is_served<R: Wait + Copy>(rt: R, alloc: Global, row: &Row) -> Result<bool, Fail> {
+    let (scene, line, after, fault, ranks) = row;
+    if scene.me < POOL {
+        return Err("a rank".into());
     }
+    let script = Script {
+        number: scene.me,
+        alone: scene.alone,
+        said: scene.said,
+        then: slice::from_ref(line),
+        after,
+        heard: scene.heard,
+        entries: Some(scene.entries),
+    };
+    let part = Serves {
+        fault: *fault,
+        ranks,
+    };
+    is_played(rt, alloc, &script, &part)
 }
 
-fn is_told<R: Wait + Copy, M: Mailing>(rt: &R, rank: &mut Desk<M>, told: Option<Trouble>) -> bool {
-    if told.is_none() {
-        return true;
-    }
-    let (from, letter) = rank.receive(rt);
-    broken(from, &letter.message) == told
-}
+// Ranks 1 and 2 have finished at the only server.
+const ONE_LEFT: Scene = Scene {
+    me: POOL,
+    alone: true,
+    said: &[(1, 1, Says::Finish), (2, 1, Says::Finish)],
+    heard: &[],
+    entries: 0,
+};
 
-fn is_served<R: Wait + Copy>(
-    rt: R,
-    alloc: Global,
-    sent: Sent,
-    wanted: &Wanted,
-) -> Result<bool, Fail> {
-    is_served_over::<R, Brand>(rt, alloc, sent, wanted, Mail::new(alloc)?)
-}
-
-fn is_served_over<R: Wait + Copy, M: Mailing>(
-    rt: R,
-    alloc: Global,
-    sent: Sent,
-    wanted: &Wanted,
-    mail: Mail,
-) -> Result<bool, Fail>
-    requires mail { M.places ≡ places_of mail.inboxes.items }
-{
-    let config = Config::new(1, 1, 64)?;
-    let Three {
-        mut first,
-        second,
-        third,
-    } = three_desks::<M>(alloc, config, mail)?;
-    drop(third);
-    let served = serves(rt, alloc, config, &mut first, second, sent, wanted);
-    drop(first);
-    Ok(served?)
-}
-
-// The server at this desk ends so, to which the rank at that desk sends this.
-fn serves<R: Wait + Copy, M: Mailing>(
-    rt: R,
-    alloc: Global,
-    config: Config,
-    rank: &mut Desk<M>,
-    server: Desk<M>,
-    sent: Sent,
-    wanted: &Wanted,
-) -> Result<bool, NoMemory>
-    requires server { IsNew config 1 server }
-    requires one_rank { config.ranks ≡ 1 }
-    requires one_server { config.servers ≡ 1 }
-{
-    send_all(&rt, alloc, rank, sent)?;
-    Ok(ends(rt, alloc, config, server, wanted)? && is_told(&rt, rank, wanted.told))
-}
-
-fn ends<R: Wait + Copy, M: Mailing>(
-    rt: R,
-    alloc: Global,
-    config: Config,
-    server: Desk<M>,
-    wanted: &Wanted,
-) -> Result<bool, NoMemory>
-    requires server { IsNew config 1 server }
-    requires one_rank { config.ranks ≡ 1 }
-    requires one_server { config.servers ≡ 1 }
-{
-    let job = ServerJob::new(alloc, rt, config, Server(0), server)?;
-    let end = job.run();
-    Ok(has_ended(&end, wanted))
-}
-
-/// What the rank sends, and how the server ends.
-const ENDS: &[(Sent, Wanted)] = &[
+/// Rank 0 sends the bytes of a unit, which no rank sends, and then that it waits and that it is gone. Or it sends its last letter,
+/// whose stamp is the last that is given, or the one before.
+const ENDS: &[Row] = &[
     (
-        Sent::Strange,
-        Wanted {
-            fault: Some(ActorFault::Unexpected { from: 0 }),
-            told: Some(Trouble::Memory),
-        },
+        &ONE_LEFT,
+        (0, 1, Says::Bytes(7, b"abc")),
+        &[(0, 1, Says::Reserve), (0, 0, Says::Gone(Trouble::Memory))],
+        (Some(ActorFault::Unexpected { from: 0 }), false),
+        &[0],
     ),
+    (&ONE_LEFT, (0, LATE, Says::Finish), &[], OWN, &[]),
     (
-        Sent::Finish {
-            stamp: STAMP_LIMIT - 1,
-        },
-        Wanted {
-            fault: Some(ActorFault::TooLong { stamp: STAMP_LIMIT }),
-            told: None,
-        },
-    ),
-    (
-        Sent::Finish {
-            stamp: STAMP_LIMIT - 2,
-        },
-        Wanted {
-            fault: None,
-            told: None,
-        },
+        &ONE_LEFT,
+        (0, LATE - 1, Says::Finish),
+        &[],
+        (None, false),
+        &[],
     ),
 ];
 
 #[test]
 fn what_is_not_expected_breaks_the_server(rt: HostRuntime) -> Result<(), Fail> {
-    for (sent, wanted) in ENDS {
-        assert!(rt; is_served(rt, rt.alloc(), *sent, wanted)?);
+    for row in ENDS {
+        assert!(rt; is_served(rt, rt.alloc(), row)?);
     }
     Ok(())
 }

@@ -10,8 +10,9 @@ use ledger_checker::first_illegal;
 use merge_history::merge;
 use packed_ledger::Kept;
 use rank_client::{ClientCore, ClientStep};
-use server_core::{ServerState, Spare};
+use server_core::{ServerState, Spare, Step};
 use std::alloc::Global;
+use std::mem;
 use std::test::Fail;
 
 const RANK: Actor = Actor::Rank(Rank(0));
@@ -67,23 +68,36 @@ impl Journal {
         }
     }
 
-    // Keeps the entries of one event more.
-    fn keep(&mut self, stamp: u64, entries: Vec<Entry>) -> Result<(), Fail> {
+    // Keeps the entries of one event more, and gives back its letter, if there is one.
+    fn keep(
+        &mut self,
+        stamp: u64,
+        sends: Vec<Sending>,
+        entries: Vec<Entry>,
+    ) -> Result<Option<Letter>, Fail> {
+        self.enter(stamp, entries)?;
+        Ok(letter(sends))
+    }
+
+    fn enter(&mut self, stamp: u64, entries: Vec<Entry>) -> Result<(), Fail> {
         self.events = self.events.wrapping_add(1);
         for entry in entries {
             keep(&mut self.kept, stamp, entry)?;
         }
         Ok(())
     }
+
+    // All that is kept, which is then kept no longer.
+    fn take(&mut self, alloc: Global) -> Kept {
+        mem::replace(&mut self.kept, Kept::new(alloc))
+    }
 }
 
-// The letters that are sent.
-fn letters(alloc: Global, sends: Vec<Sending>) -> Result<Vec<Letter>, Fail> {
-    let mut letters = Vec::new(alloc);
-    for sending in sends {
-        letters.push(sending.letter)?;
-    }
-    Ok(letters)
+// The letter that is sent. No event here sends more than one.
+fn letter(sends: Vec<Sending>) -> Option<Letter> {
+    let mut sends = sends;
+    let Sending { letter, .. } = sends.pop()?;
+    Some(letter)
 }
 
 // The rank with its journal so far.
@@ -102,36 +116,35 @@ impl SteppedRank {
     }
 
     // The rank begins the call of this number: what it sends.
-    fn begin(&mut self, alloc: Global, number: u32) -> Result<Vec<Letter>, Fail> {
+    fn begin(&mut self, alloc: Global, number: u32) -> Result<Option<Letter>, Fail> {
         let made = call(alloc, number)?;
         if !self.client.ready(&made) {
             return Err("not ready".into());
         }
         let mut step = ClientStep::new(alloc)?;
         self.client.begin(&mut step, made)?;
-        self.keep(alloc, step)
+        self.keep(step)
     }
 
     // The rank hears the letter of the server: what it sends, if its call goes on.
-    fn hear(&mut self, alloc: Global, letter: Letter) -> Result<Vec<Letter>, Fail> {
+    fn hear(&mut self, alloc: Global, letter: Letter) -> Result<Option<Letter>, Fail> {
         if !self.client.expects(Server(0), &letter) {
             return Err("not expected by the rank".into());
         }
         let mut step = ClientStep::new(alloc)?;
         self.client.hear(&mut step, Server(0), letter)?;
-        self.keep(alloc, step)
+        self.keep(step)
     }
 
     // Keeps what the step enters in the journal: what it sends.
-    fn keep(&mut self, alloc: Global, step: ClientStep) -> Result<Vec<Letter>, Fail> {
+    fn keep(&mut self, step: ClientStep) -> Result<Option<Letter>, Fail> {
         let ClientStep {
             stamp,
             sends,
             entries,
             ..
         } = step;
-        self.journal.keep(stamp, entries)?;
-        letters(alloc, sends)
+        self.journal.keep(stamp, sends, entries)
     }
 }
 
@@ -151,41 +164,34 @@ impl SteppedServer {
     }
 
     // The server handles the letter of the rank: what it answers.
-    fn serve(&mut self, alloc: Global, letter: Letter) -> Result<Vec<Letter>, Fail> {
-        if self.server.broken().is_some() {
-            return Err("broken".into());
-        }
-        if !self.server.expects(RANK, &letter) {
+    fn serve(&mut self, alloc: Global, letter: Letter) -> Result<Option<Letter>, Fail> {
+        if self.server.broken().is_some() || !self.server.expects(RANK, &letter) {
             return Err("not expected by the server".into());
         }
-        let step = self.server.step(Spare::new(alloc), RANK, letter)?;
-        self.journal.keep(step.stamp, step.entries)?;
-        letters(alloc, step.sends)
+        let Step {
+            stamp,
+            sends,
+            entries,
+        } = self.server.step(Spare::new(alloc), RANK, letter)?;
+        self.journal.keep(stamp, sends, entries)
     }
 }
 
-// All ten calls.
-fn rounds(alloc: Global, rank: &mut SteppedRank, server: &mut SteppedServer) -> Result<(), Fail> {
-    for number in 0..10 {
-        round(alloc, rank, server, number)?;
-    }
-    Ok(())
-}
-
-// The call of this number, and each letter that follows it.
+// The call of this number, and each letter that follows it. The bytes of a unit are followed by those of its common part.
 fn round(
     alloc: Global,
     rank: &mut SteppedRank,
     server: &mut SteppedServer,
     number: u32,
 ) -> Result<(), Fail> {
-    for letter in rank.begin(alloc, number)? {
-        // The bytes of a unit are followed by those of its common part.
-        for more in exchange(alloc, rank, server, letter)? {
-            let _ = exchange(alloc, rank, server, more)?;
-        }
+    let mut next = rank.begin(alloc, number)?;
+    for _ in 0..3 {
+        let Some(letter) = next else {
+            return Ok(());
+        };
+        next = exchange(alloc, rank, server, letter)?;
     }
-    Ok(())
+    Err("a call goes on".into())
 }
 
 // The server handles the letter, and the rank hears what it answers: what it sends then.
@@ -194,29 +200,43 @@ fn exchange(
     rank: &mut SteppedRank,
     server: &mut SteppedServer,
     letter: Letter,
-) -> Result<Vec<Letter>, Fail> {
-    let mut more = Vec::new(alloc);
-    for answer in server.serve(alloc, letter)? {
-        more.append(&mut rank.hear(alloc, answer)?)?;
+) -> Result<Option<Letter>, Fail> {
+    match server.serve(alloc, letter)? {
+        Some(answer) => rank.hear(alloc, answer),
+        None => Ok(None),
     }
-    Ok(more)
 }
 
-// The journals of the rank and of the server after all ten calls.
-fn journals(alloc: Global, config: &Config) -> Result<(Journal, Journal), Fail> {
-    let mut rank = SteppedRank::new(alloc, *config)?;
-    let mut server = SteppedServer::new(alloc, *config)?;
-    rounds(alloc, &mut rank, &mut server)?;
-    Ok((rank.journal, server.journal))
-}
-
-// How many events there were, and how many entries their ledger has; and the first entry that is not legal.
-fn counted(alloc: Global, config: &Config) -> Result<(usize, u64, Option<u64>), Fail> {
-    let (rank, server) = journals(alloc, config)?;
-    let events = rank.events.wrapping_add(server.events);
-    let ledger = merge(alloc, vec![in alloc; rank.kept, server.kept]?)?;
+// How many events there were after all ten calls, and how many entries their ledger has; and the first entry that is not legal.
+fn counts(
+    alloc: Global,
+    config: &Config,
+    rank: &mut SteppedRank,
+    server: &mut SteppedServer,
+) -> Result<(usize, u64, Option<u64>), Fail> {
+    for number in 0..10 {
+        round(alloc, rank, server, number)?;
+    }
+    let events = rank.journal.events.wrapping_add(server.journal.events);
+    let kept = vec![in alloc; rank.journal.take(alloc), server.journal.take(alloc)]?;
+    let ledger = merge(alloc, kept)?;
     let illegal = first_illegal(alloc, &ledger, config)?;
     Ok((events, ledger.len(), illegal))
+}
+
+// The rank and a server take all steps.
+fn counted_of(
+    alloc: Global,
+    config: &Config,
+    rank: &mut SteppedRank,
+) -> Result<(usize, u64, Option<u64>), Fail> {
+    let mut server = SteppedServer::new(alloc, *config)?;
+    counts(alloc, config, rank, &mut server)
+}
+
+fn counted(alloc: Global, config: &Config) -> Result<(usize, u64, Option<u64>), Fail> {
+    let mut rank = SteppedRank::new(alloc, *config)?;
+    counted_of(alloc, config, &mut rank)
 }
 
 #[test]

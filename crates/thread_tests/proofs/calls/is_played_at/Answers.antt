@@ -1,5 +1,0 @@
-use Rattle.rank_client.proofs.LinkLaws.{not_begun}
-use Rattle.thread_tests.proofs.calls.is_played_at.Goals as goal
-
-pub are_told-told-requires : goal.are_told-told-requires
-are_told-told-requires g c = not_begun _ c.in_ok-link.ensures.empty
