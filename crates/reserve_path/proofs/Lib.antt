@@ -1,6 +1,5 @@
 pub mod Conditions
 pub mod Examples
-pub mod Fronts
 pub mod Granted
 pub mod Others
 pub mod Outcomes
@@ -8,3 +7,4 @@ pub mod Places
 pub mod Resting
 pub mod Rooms
 pub mod Sound
+pub mod Taken

@@ -1,5 +1,4 @@
 pub mod Calls
-pub mod Front
 pub mod Grants
 pub mod inside
 pub mod Parked

@@ -7,14 +7,12 @@
 //! unit becomes free there for which no rank waits, the wish is taken off, and a hint goes to the rank's home, which
 //! asks that server again.
 //!
-//! It stands on the queue of `work_queue`, and on the map of `indexmap`, in which each rank has an entry and those
-//! that wait are the first. `specs/Parked.antt` says what waits, `specs/Grants.antt` what is granted, and
+//! It stands on the queue of `work_queue`. `specs/Parked.antt` says what waits, `specs/Grants.antt` what is granted, and
 //! `specs/Calls.antt` what each call makes of both. Three laws follow from these definitions. What is granted is the
 //! best unit (`grant_laws`). No free unit lies for an idle rank (`parked_laws`), or for a rank that waits elsewhere
 //! and has a wish (`wish_laws`). `specs/Rest.antt` has the words of the latter two.
 #![tactic(auto)]
 
-mod front;
 mod granting;
 mod hinting;
 mod laws;

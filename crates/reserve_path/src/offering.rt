@@ -27,7 +27,7 @@ impl Parked {
             queue.new ≡ given (taker_of p.unit self.old) p queue.old) queue.old.units }
     {
         let (facts, target) = queue.facts(id);
-        match taker(self.front.waiting(), facts.kind, target) {
+        match taker(self.waiting.as_slice(), facts.kind, target) {
             None => None,
             Some(waits) => {
                 let (rank, request) = (waits.wish.rank, waits.wish.request);
@@ -44,7 +44,7 @@ impl Parked {
         ensures idle { result ≡ option_map (λ e. call_of e.wish) (first_idle self.old) }
         ensures parked { self.new ≡ gone_if self.old (first_idle self.old) }
     {
-        match first_idle(self.front.waiting()) {
+        match first_idle(self.waiting.as_slice()) {
             None => None,
             Some(waits) => {
                 let (rank, request) = (waits.wish.rank, waits.wish.request);

@@ -7,7 +7,6 @@ ghost use Rattle.reserve_path.specs.Calls.{asks_next, forgotten, gone, hears_of,
 ghost use Rattle.reserve_path.specs.Parked.{IsAway, IsOther, IsParked, IsWaiting, empty, entry_of, is_asked, is_idle, is_of, is_parked, with_waiting};
 ghost use Rattle.reserve_path.specs.declared.waits.Waiting.{Waiting as Entry};
 
-use crate::front::Front;
 use crate::steps::ReserveStep;
 use crate::waits::Waiting;
 use crate::wishes::Wish;
@@ -16,13 +15,13 @@ use std::alloc::Global;
 use std::marker::Model;
 
 /// The ranks that wait at one server, in the order in which they came, and the wishes of ranks that wait elsewhere.
-/// Contracts see it as a `ParkedModel` of `specs/Parked.antt`. It has an entry for each rank and room for its wish from
-/// its making, and no call but `new` takes memory.
+/// Contracts see it as a `ParkedModel` of `specs/Parked.antt`. It has room for each rank and for its wish from its
+/// making, and no call but `new` takes memory.
 #[derive(Drop)]
 pub struct Parked {
     pub(crate) config: Config,
     pub(crate) me: Server,
-    pub(crate) front: Front,
+    pub(crate) waiting: Vec<Waiting>,
     pub(crate) wishes: Vec<Wish>,
 }
 
@@ -44,12 +43,12 @@ impl Parked {
         requires { me.0 < config.servers }
         ensures { IfOk result (λ p. p ≡ empty config me) }
     {
-        let front = Front::new(alloc, config.ranks)?;
+        let waiting = or_no_memory(Vec::with_capacity(alloc, config.ranks as usize))?;
         let wishes = or_no_memory(Vec::with_capacity(alloc, config.ranks as usize))?;
         Ok(Parked {
             config,
             me,
-            front,
+            waiting,
             wishes,
         })
     }
@@ -68,10 +67,7 @@ impl Parked {
         ensures some { result ≡ list_any is_asked self.now.parked.waiting }
         ensures sound { IsParked self.now }
     {
-        self.front
-            .waiting()
-            .iter()
-            .any(|waits| waits.asked.is_some())
+        self.waiting.iter().any(|waits| waits.asked.is_some())
     }
 
     /// The request since which the rank waits, and the server that is unanswered, if one is. `None` exactly if the
@@ -79,7 +75,7 @@ impl Parked {
     pub fn awaits(&self, rank: Rank) -> Option<(u64, Option<Server>)>
         ensures { result ≡ option_map request_of (entry_of self.now rank) }
     {
-        let waiting = self.front.waiting();
+        let waiting = self.waiting.as_slice();
         let waits = waiting.iter().find(|waits| waits.wish.rank.0 == rank.0);
         match waits {
             Some(waits) => Some((waits.wish.request, waits.asked)),
@@ -91,7 +87,7 @@ impl Parked {
     pub fn types_of(&self, rank: Rank) -> Option<Types>
         ensures { result ≡ option_map (λ (e : Entry). e.wish.types) (entry_of self.now rank) }
     {
-        let waiting = self.front.waiting();
+        let waiting = self.waiting.as_slice();
         let waits = waiting.iter().find(|waits| waits.wish.rank.0 == rank.0);
         match waits {
             Some(waits) => Some(waits.wish.types.twin()),
@@ -104,7 +100,7 @@ impl Parked {
         ensures waiting { result.0 ≡ length self.now.parked.waiting }
         ensures wishes { result.1 ≡ length self.now.parked.wishes }
     {
-        (self.front.waiting().len(), self.wishes.len())
+        (self.waiting.as_slice().len(), self.wishes.len())
     }
 
     /// Copies the ranks that wait, each with the types that it wants, to the front of the room, in the order in which
@@ -113,7 +109,7 @@ impl Parked {
         ensures count { result ≡ length self.now.parked.waiting }
         ensures room { room.new ≡ map wants self.now.parked.waiting ++ drop (length self.now.parked.waiting) room.old }
     {
-        let waiting = self.front.waiting();
+        let waiting = self.waiting.as_slice();
         let mut count = 0;
         for waits in waiting {
             room[count as usize] = (waits.wish.rank, waits.wish.types.twin());
@@ -126,7 +122,7 @@ impl Parked {
     pub(crate) fn place_of(&self, rank: Rank) -> Option<usize>
         ensures { result ≡ position (is_of rank) self.now.parked.waiting }
     {
-        let waiting = self.front.waiting();
+        let waiting = self.waiting.as_slice();
         waiting.iter().position(|waits| waits.wish.rank.0 == rank.0)
     }
 
@@ -135,7 +131,7 @@ impl Parked {
         ensures place { result ≡ position (is_since rank request) self.now.parked.waiting }
         ensures sound { IsParked self.now }
     {
-        let waiting = self.front.waiting();
+        let waiting = self.waiting.as_slice();
         waiting.iter().position(|waits| waits.wish.rank.0 == rank.0
             && waits.wish.request == request)
     }
@@ -145,7 +141,7 @@ impl Parked {
         requires { place < length self.now.parked.waiting }
         ensures { slice_get self.now.parked.waiting place ≡ Some result.now }
     {
-        &self.front.waiting()[place]
+        &self.waiting.as_slice()[place]
     }
 
     // For the rank at this place, the next server is asked.
@@ -156,7 +152,7 @@ impl Parked {
         ensures asked { (e : Entry) → slice_get self.old.parked.waiting place ≡ Some e →
             self.new ≡ with_waiting self.old (slice_set self.old.parked.waiting place (asks_next e)) }
     {
-        self.front.ask_next(place)
+        self.waiting[place].ask_next()
     }
 
     // For the rank at this place, another server has hinted.
@@ -169,7 +165,7 @@ impl Parked {
             self.new ≡ with_waiting self.old
             (slice_set self.old.parked.waiting place (hears_of self.old.config self.old.me from e)) }
     {
-        self.front.hear_of(place, &self.config, self.me, from)
+        self.waiting[place].hear_of(&self.config, self.me, from)
     }
 
     // The rank waits from now on, after the others.
@@ -178,7 +174,7 @@ impl Parked {
         requires new { is_parked self.old waits.wish.rank ≡ false }
         ensures { self.new ≡ with_waiting self.old (self.old.parked.waiting ++ waits ∷ []) }
     {
-        self.front.park(waits);
+        self.waiting.push_reserved(waits);
     }
 
     // The rank waits no longer.
@@ -186,7 +182,7 @@ impl Parked {
         ensures { self.new ≡ gone self.old rank }
     {
         if let Some(place) = self.place_of(rank) {
-            self.front.leave(place);
+            let _left = self.waiting.remove(place);
         }
     }
 

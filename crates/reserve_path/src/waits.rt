@@ -8,7 +8,7 @@ ghost use Rattle.reserve_path.specs.Parked.{is_idle};
 use crate::ring::ToAsk;
 use crate::steps::ReserveStep;
 use crate::wishes::{Wish, is_soft_for};
-use adlb_unit::{Config, Rank, Server, Target, Types, WorkType};
+use adlb_unit::{Config, Server, Target, WorkType};
 
 /// A rank that waits at its home.
 #[derive(Drop)]
@@ -22,21 +22,6 @@ pub struct Waiting {
 }
 
 impl Waiting {
-    // What the entry of a rank holds that has not waited yet.
-    pub(crate) fn free(rank: Rank) -> Waiting
-        ensures { result.wish.rank ≡ rank }
-    {
-        Waiting {
-            wish: Wish {
-                rank,
-                request: 0,
-                types: Types::any(),
-            },
-            asked: None,
-            to_ask: ToAsk::none(),
-        }
-    }
-
     // A rank for which the first of these servers is asked.
     pub(crate) fn asking(wish: Wish, mut to_ask: ToAsk) -> Waiting
         ensures { result ≡ asking wish to_ask }

@@ -4,9 +4,10 @@
 //!     let ended = solve(alloc, settings, tail, config, false, &mut input, &mut output, &mut threads, FreeGate {});
 //!     let drilled = drill(alloc, 500, 1, settings, config, false, &mut output, &mut threads, FreeGate {});
 //!
-//! `Puzzles` is a command of `run_command`: it asks for the jobs of an input (`job_text`), which the programs of `puzzle_app` work, and
-//! tells their report or a summary (`solve_report`). `solve` runs it over an input, and `drill` over a made text. `specs/Ends.antt` says how
-//! the two end, and `specs/Puzzles.antt` what is asked and run; `Tail` is what a caller wants after a report.
+//! `Puzzles` is a command of `run_command`: it asks for the jobs of an input (`job_text`), which the programs of
+//! `puzzle_app` work, and tells their report or a summary (`solve_report`). `solve` runs it over an input, and `drill`
+//! over a made text. `specs/Ends.antt` says how the two end, and `specs/Puzzles.antt` what is asked and run; `Tail` is
+//! what a caller wants after a report.
 #![tactic(auto)]
 
 mod drilling;

@@ -1,42 +1,46 @@
-use Rattle.std.proofs.Common.{◌≡◌, ◌<◌, length, set, get_or, Some, refl, ap, sym, subst, ◌∙◌}
+use Rattle.std.proofs.Common.{rules, arith, vec_len, ◌≡◌, ◌<◌, length, set, Some, refl, ap, sym, subst, ◌∙◌}
 use Rattle.std.specs.List.{slice_get}
-use Rattle.std.proofs.lemmas.List.{get_or_default}
-use Rattle.std.proofs.lemmas.Option.{slice_get-get_or}
-use Rattle.adlb_unit.specs.declared.names.Rank.{Rank}
-use Rattle.reserve_path.proofs.Places.{nobody}
+use Rattle.std.proofs.lemmas.Option.{get_or_from_slice_get}
 use Rattle.reserve_path.proofs.Sound.{next_waits, write_sound}
 use Rattle.reserve_path.specs.Calls.{asks_next, step_of}
-use Rattle.reserve_path.specs.Front.{FrontModel}
 use Rattle.reserve_path.specs.inside.{parked_of}
 use Rattle.reserve_path.specs.Parked.{IsParked, ParkedModel, with_waiting}
 use Rattle.reserve_path.specs.declared.waits.Waiting.{Waiting}
 use Rattle.reserve_path.proofs.parking.Parked.ask_next.Goals as goal
 
-pub ask_next-requires : goal.ask_next-requires
-ask_next-requires c = subst (λ (m : ParkedModel). c.args.place < length m.parked.waiting) (sym c.self.view_is) c.requires
+pub index_mut-requires : goal.index_mut-requires
+index_mut-requires c =
+    let within = subst (λ (m : ParkedModel). c.args.place < length m.parked.waiting) (sym c.self.view_is) c.requires in
+    let same : length c.self.inside.waiting.items ≡ vec_len c.self.inside.waiting = search rules in
+    omega (arith, within, same)
+
+-- who waits at the place
+one : (c : goal.After-self-1) (e : Waiting) → slice_get c.args.self.now.parked.waiting c.args.place ≡ Some e
+    → c.index_mut.result.now ≡ e
+one c e here =
+    let back = subst (λ (m : ParkedModel). slice_get m.parked.waiting c.args.place ≡ Some e) (sym c.self.view_is) here in
+    c.index_mut.ensures.value ∙ get_or_from_slice_get c.self.inside.waiting.items c.args.place e c.index_mut.result.now back
 
 pub invariant_of-self : goal.invariant_of-self
 invariant_of-self c =
     let m = parked_of c.self.inside in
-    let items = c.self.inside.front.waiting in
-    let P : FrontModel → Type 0 = λ f. IsParked (with_waiting m f.waiting) in
+    let P : Waiting → Type 0 = λ x. IsParked (with_waiting m (set m.parked.waiting c.args.place x)) in
     let within = subst (λ (n : ParkedModel). c.args.place < length n.parked.waiting) (sym c.self.view_is) c.requires in
-    let none : Rank = record { 0 = 0 } in
-    let e = get_or items c.args.place (nobody none) in
-    let is = c.ask_next.ensures.asked e (slice_get-get_or items c.args.place (nobody none) within) in
     record {
-      sound = subst P (sym is) (write_sound m c.args.place e asks_next c.self.invariant.sound within
-          (get_or_default items c.args.place e (nobody none) within) (next_waits m.config m.me) (λ x. refl));
-      entries = ap (λ (f : FrontModel). f.ranks) is ∙ c.self.invariant.entries;
+      sound = subst P (sym c.ask_next.ensures.asked) (write_sound m c.args.place c.index_mut.result.now asks_next c.self.invariant.sound
+          within (sym c.index_mut.ensures.value) (next_waits m.config m.me) (λ x. refl));
+      room = c.self.invariant.room;
       wish_room = c.self.invariant.wish_room;
     }
 
 pub returns-clause-step : goal.returns-clause-step
 returns-clause-step c e here =
-    c.ask_next.ensures.step e (subst (λ (m : ParkedModel). slice_get m.parked.waiting c.args.place ≡ Some e) (sym c.self.view_is) here)
+    c.ask_next.ensures.step
+    ∙ ap (λ (x : Waiting). step_of x.asked) (c.ask_next.ensures.asked ∙ ap (λ (x : Waiting). asks_next x) (one c e here))
 
 pub returns-clause-asked : goal.returns-clause-asked
 returns-clause-asked c e here =
-    let back = subst (λ (m : ParkedModel). slice_get m.parked.waiting c.args.place ≡ Some e) (sym c.self.view_is) here in
-    ap (λ (f : FrontModel). with_waiting (parked_of c.self.inside) f.waiting) (c.ask_next.ensures.asked e back)
+    let m = parked_of c.self.inside in
+    ap (λ (x : Waiting). with_waiting m (set m.parked.waiting c.args.place x))
+    (c.ask_next.ensures.asked ∙ ap (λ (x : Waiting). asks_next x) (one c e here))
     ∙ ap (λ (m : ParkedModel). with_waiting m (set m.parked.waiting c.args.place (asks_next e))) c.self.view_is

@@ -16,7 +16,7 @@ invariant_of-self c =
     let P : List Wish → Type 0 = λ l. IsParked (with_wishes m l) in
     record {
       sound = subst P (sym (left c)) (forgotten_sound m c.args.rank c.self.invariant.sound);
-      entries = c.self.invariant.entries;
+      room = c.self.invariant.room;
       wish_room = omega (arith, c.retain.ensures.capacity, c.self.invariant.wish_room);
     }
 

@@ -35,7 +35,7 @@ invariant_of-self c =
     let P : List Wish → Type 0 = λ l. IsParked (with_wishes m l) in
     record {
       sound = subst P (sym (after c)) (wished_sound m c.args.wish (away c) c.self.invariant.sound);
-      entries = c.self.invariant.entries;
+      room = c.self.invariant.room;
       wish_room = omega (arith, c.push_reserved.ensures.capacity, c.retain.ensures.capacity, c.self.invariant.wish_room);
     }
 
