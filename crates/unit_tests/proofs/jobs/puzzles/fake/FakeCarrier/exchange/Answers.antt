@@ -5,9 +5,9 @@ use Rattle.rank_client.proofs.LinkLaws.{made_again}
 use Rattle.rank_client.specs.Answers.{IsAnswerTo}
 use Rattle.rank_client.specs.Calls.{has_finished}
 use Rattle.rank_client.specs.Link.{Made}
-use Rattle.job_tests.specs.Fake.{fake_link}
-use Rattle.job_tests.proofs.Fake.{made_said, short_of}
-use Rattle.job_tests.proofs.puzzles.fake.FakeCarrier.exchange.Goals as goal
+use Rattle.unit_tests.specs.Fake.{fake_link}
+use Rattle.unit_tests.proofs.Fake.{made_said, short_of}
+use Rattle.unit_tests.proofs.jobs.puzzles.fake.FakeCarrier.exchange.Goals as goal
 
 pub returns-in-Some-clause-made : goal.returns-in-Some-clause-made
 returns-in-Some-clause-made c =

@@ -1,7 +1,7 @@
 use Rattle.std.proofs.Common.{◌≡◌, false, sym, ◌∙◌}
 use Rattle.std.proofs.lemmas.Bool.{not-true}
-use Rattle.job_tests.proofs.Fake.{no_misfit}
-use Rattle.job_tests.proofs.puzzles.fake.all_fit.Goals as goal
+use Rattle.unit_tests.proofs.Fake.{no_misfit}
+use Rattle.unit_tests.proofs.jobs.puzzles.fake.all_fit.Goals as goal
 
 pub returns : goal.returns
 returns c = λ none note was same.

@@ -10,7 +10,7 @@ ghost use Rattle.bag_ledger.specs.declared.entries.Call.{Call};
 ghost use Rattle.rank_client.specs.Answers.{IsAnswer, IsAnswerTo, answers_put, answers_reserve, answers_try};
 ghost use Rattle.rank_client.specs.Calls.{TellsAgain, end_of, end_told, fetches, goes_on, granted, grants, is_fetched, is_granted};
 ghost use Rattle.rank_client.specs.Link.{Can};
-ghost use Rattle.job_tests.specs.Fake.{IsShort, fake_link, misfits};
+ghost use Rattle.unit_tests.specs.Fake.{IsShort, fake_link, misfits};
 
 use adlb_unit::{
     BatchId, CommonRef, End, Handle, Info, NoMemory, Payload, Rank, Server, Trouble, UnitId,

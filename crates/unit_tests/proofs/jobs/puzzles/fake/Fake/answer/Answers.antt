@@ -1,8 +1,8 @@
 use Rattle.std.proofs.Common.{IfOk, sym, subst}
 use Rattle.bag_ledger.specs.declared.entries.Call.{Call}
 use Rattle.rank_client.specs.Answers.{IsAnswerTo}
-use Rattle.job_tests.proofs.Fake.{reserve_fits}
-use Rattle.job_tests.proofs.puzzles.fake.Fake.answer.Goals as goal
+use Rattle.unit_tests.proofs.Fake.{reserve_fits}
+use Rattle.unit_tests.proofs.jobs.puzzles.fake.Fake.answer.Goals as goal
 
 pub returns-in-Reserve-clause-fits : goal.returns-in-Reserve-clause-fits
 returns-in-Reserve-clause-fits c =

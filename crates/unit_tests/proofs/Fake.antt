@@ -19,7 +19,7 @@ use Rattle.adlb_unit.specs.declared.notes.Trouble.{Trouble}
 use Rattle.bag_ledger.specs.declared.entries.Call.{Call}
 use Rattle.bag_ledger.specs.declared.entries.Call.TheVariants as calls_to
 use Rattle.bag_ledger.specs.declared.entries.Said.{Said}
-use Rattle.job_tests.specs.Fake.{IsShort, fake_link, misfits}
+use Rattle.unit_tests.specs.Fake.{IsShort, fake_link, misfits}
 
 -- a body that can be put is short
 pub short_of : (said : List Said) (going : Bool) (failed : Option Trouble) (call : Call) → Can (fake_link said going failed) call
