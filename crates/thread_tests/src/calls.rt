@@ -12,7 +12,7 @@ use crate::programs::{begin, put, take};
 use crate::says::{Line, Says, TOO_LONG};
 use actor_desk::{Desk, Mailing};
 use adlb_io::GatePoint;
-use adlb_unit::{Config, NoMemory, Rank, STAMP_LIMIT, Target, Trouble, or_no_memory};
+use adlb_unit::{Config, NoMemory, Rank, STAMP_LIMIT, Target, Trouble};
 use crossbeam_channel::{Receiver, Sender, bounded};
 use rank_client::{Adlb, EndFault, PutFault};
 use std::alloc::Global;
@@ -41,24 +41,14 @@ enum Told {
     Took(Result<bool, EndFault>),
 }
 
-fn took<A: Adlb>(link: &mut A, fetches: bool) -> Result<bool, EndFault>
-    requires { has_finished (A.link link.old).said ≡ false }
-    ensures { has_finished (A.link link.new).said ≡ false }
-{
-    match take(link, fetches)? {
-        Some(body) => Ok(body.runs() == (b"ab".as_slice(), b"c".as_slice())),
-        None => Ok(false),
-    }
-}
-
 fn told_of_call<A: Adlb>(link: &mut A, alloc: Global, does: &Does) -> Told
     requires { has_finished (A.link link.old).said ≡ false }
     ensures { has_finished (A.link link.new).said ≡ false }
 {
     match does {
         Does::Put => Told::Put(put(alloc, link, Target::Any)),
-        Does::Reserve => Told::Took(took(link, false)),
-        Does::Work => Told::Took(took(link, true)),
+        Does::Reserve => Told::Took(take(link, false)),
+        Does::Work => Told::Took(take(link, true)),
         Does::BeginBatch => Told::Put(begin(alloc, link)),
     }
 }
@@ -131,7 +121,10 @@ impl Part for Calls<'_> {
         desk: Desk<M>,
         others: &mut Others<M>,
     ) -> Result<bool, NoMemory> {
-        let seen = or_no_memory(self.seen.clone())?;
+        let Ok(seen) = self.seen.clone() else {
+            drop(desk);
+            return Err(NoMemory);
+        };
         let link = Link::<R, M>::new(alloc, rt, config, Rank(number), desk, SeenGate { rt, seen })?;
         is_told(alloc, link, self.play, others)
     }
@@ -148,21 +141,23 @@ fn is_told<R: Wait + Copy, M: Mailing>(
 {
     let mut link = link;
     let told = are_told(&mut link, alloc, play.calls);
-    Ok(is_left(link, play, others)? && told)
+    is_left(link, play, others, told)
 }
 
-// The link leaves what the play says, or nothing if a batch is going on.
+// The link leaves what the play says, or nothing if a batch is going on; and its calls were told what the play says.
 fn is_left<R: Wait + Copy, M: Mailing>(
     link: Link<R, M>,
     play: &Play,
     others: &mut Others<M>,
+    told: bool,
 ) -> Result<bool, NoMemory>
     requires { has_finished link.core.transcript ≡ false }
 {
     if link.batch_open() {
-        return Ok(play.entries.is_none());
+        drop(link);
+        return Ok(told && play.entries.is_none());
     }
-    has_ended(link.end(), play.fault, others)
+    has_ended(link.end(), play.fault, others, told)
 }
 
 // The link has left this, with its desk.
@@ -170,10 +165,17 @@ fn has_ended<M: Mailing>(
     end: LinkEnd<M>,
     wanted: Option<ActorFault>,
     others: &mut Others<M>,
+    told: bool,
 ) -> Result<bool, NoMemory> {
-    let LinkEnd { fault, desk, .. } = end;
+    let LinkEnd {
+        said,
+        fault,
+        desk,
+        ..
+    } = end;
+    drop(said);
     others.put_back(desk)?;
-    Ok(fault == wanted)
+    Ok(told && fault == wanted)
 }
 
 fn is_shown<R: Wait + Copy>(rt: R, alloc: Global, play: &Play) -> Result<bool, Fail> {

@@ -5,13 +5,15 @@ ghost use Rattle.actor_desk.specs.Desks.{DeskModel, IsNew};
 ghost use Rattle.rank_mail.specs.Mailboxes.{PostModel, fresh_inbox, fresh_post, places_of};
 
 use crate::heard::{Heard, heard_of};
-use crate::says::{Line, message};
+use crate::says::{Line, Says, message};
 use actor_desk::{Desk, Mailing, called, clear, desks};
 use adlb_unit::{Actor, Config, Letter, Message, NoMemory, Rank, Sending, Server, or_no_memory};
 use bag_ledger::Call;
-use merge_history::merge;
+use merge_history::{Cause, merge};
 use rank_mail::{Inbox, Post, mailboxes};
 use std::alloc::Global;
+use std::mem;
+use std::snapshot::Snapshot;
 use std::sync::Wait;
 use std::test::Fail;
 
@@ -76,7 +78,7 @@ impl<M: Mailing> Others<M> {
         let to = actor(self.tried);
         for (from, stamp, says) in lines {
             if let Some(desk) = self.desks.get_mut(*from as usize) {
-                send(rt, alloc, desk, to, *stamp, message(alloc, says)?)?;
+                send(rt, alloc, desk, to, *stamp, says)?;
             }
         }
         Ok(())
@@ -118,7 +120,9 @@ impl<M: Mailing> Others<M> {
             return Heard::Other;
         };
         let (from, letter) = desk.receive(rt);
-        heard_of(from, self.tried, &letter.message)
+        let heard = heard_of(from, self.tried, &letter.message);
+        drop(letter);
+        heard
     }
 
     /// Puts the desk of the actor that was tried at its place.
@@ -131,16 +135,19 @@ impl<M: Mailing> Others<M> {
         Ok(())
     }
 
-    /// The journals of all desks have this number of entries, if the desk of the actor that was tried is at its place.
-    pub fn has_entered(self, alloc: Global, wanted: Option<u64>) -> Result<bool, NoMemory>
+    /// The journals of all desks have this number of entries, if the desk of the actor that was tried is at its place. Then no
+    /// desk is left.
+    pub fn have_entered(&mut self, alloc: Global, wanted: Option<u64>) -> Result<bool, NoMemory>
         requires { length M.places ≡ 7 }
     {
-        let Others { desks, .. } = self;
-        if desks.len() != 7 || !are_numbered(desks.as_slice()) {
+        if self.desks.len() != 7 || !are_numbered(self.desks.as_slice()) {
             return Ok(wanted.is_none());
         }
-        let kept = clear(alloc, desks)?;
-        Ok(wanted == Some(merge(alloc, kept)?.len()))
+        let desks = mem::replace(&mut self.desks, Vec::new(alloc));
+        let ledger = merge(alloc, clear(alloc, desks)?)?;
+        let entries = ledger.len();
+        drop(ledger);
+        Ok(wanted == Some(entries))
     }
 }
 
@@ -164,22 +171,41 @@ fn actor(number: u32) -> Actor {
     }
 }
 
-// Sends a letter of this stamp to an actor, as an event of the desk.
+// Sends a letter of this stamp that says this to an actor, as an event of the desk.
 fn send<M: Mailing, R: Wait>(
     rt: &R,
     alloc: Global,
     desk: &mut Desk<M>,
     to: Actor,
     stamp: u64,
-    message: Message,
+    says: &Says,
 ) -> Result<(), NoMemory> {
     let letter = Letter {
         stamp,
         place: 0,
-        message,
+        message: message(alloc, says)?,
     };
-    let mut sends = or_no_memory(vec![in alloc; Sending { to, letter }])?;
-    let (cause, _call) = called(Call::Finish);
-    desk.enter(rt, stamp, cause, &mut sends, &mut Vec::new(alloc));
-    Ok(())
+    let mut sends = Vec::new(alloc);
+    let fits = sends.push(Sending { to, letter });
+    if fits.is_ok() {
+        let (cause, call) = called(Call::Finish);
+        drop(call);
+        enter(rt, alloc, desk, stamp, cause, &mut sends);
+    }
+    drop(sends);
+    or_no_memory(fits)
+}
+
+/// An event of the desk of this stamp sends these letters, and enters nothing.
+pub fn enter<M: Mailing, R: Wait>(
+    rt: &R,
+    alloc: Global,
+    desk: &mut Desk<M>,
+    stamp: u64,
+    cause: Snapshot<Cause>,
+    sends: &mut Vec<Sending>,
+) {
+    let mut entries = Vec::new(alloc);
+    desk.enter(rt, stamp, cause, sends, &mut entries);
+    drop(entries);
 }

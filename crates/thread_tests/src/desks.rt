@@ -5,7 +5,7 @@ ghost use Rattle.core_run.specs.World.{actors};
 ghost use Rattle.actor_desk.specs.Desks.{IsNew};
 ghost use Rattle.rank_mail.specs.Mailboxes.{PostModel, fresh_inbox, fresh_post};
 
-use crate::cast::{Others, POOL};
+use crate::cast::{Others, POOL, enter};
 use crate::heard::Heard;
 use crate::parts::{Part, Script, is_played};
 use crate::says::Says;
@@ -56,10 +56,11 @@ fn hear<R: Wait, M: Mailing>(
     server.make_room(0)?;
     let (number, letter) = server.receive(rt);
     let stamp = letter.stamp;
-    let from = Actor::Rank(Rank(number));
-    let (cause, _letter) = got(from, letter);
-    let (mut sends, mut entries) = (Vec::new(alloc), Vec::new(alloc));
-    server.enter(rt, 8, cause, &mut sends, &mut entries);
+    let (cause, letter) = got(Actor::Rank(Rank(number)), letter);
+    drop(letter);
+    let mut sends = Vec::new(alloc);
+    enter(rt, alloc, server, 8, cause, &mut sends);
+    drop(sends);
     Ok((number, stamp))
 }
 
@@ -80,10 +81,15 @@ fn an_event_sends_its_letter(rt: HostRuntime) -> Result<(), Fail> {
 
 #[test]
 fn three_desks_are_cleared(rt: HostRuntime) -> Result<(), Fail> {
-    let config = Config::new(1, 1, 64)?;
-    let (posts, inboxes) = mailboxes(rt.alloc(), 3, 4)?;
-    assert!(rt; cleared::<Brand>(rt.alloc(), config, posts, inboxes)? == 3);
+    assert!(rt; left_of_three(rt.alloc())? == 3);
     Ok(())
+}
+
+// How many journals three desks leave.
+fn left_of_three(alloc: Global) -> Result<usize, Fail> {
+    let config = Config::new(1, 1, 64)?;
+    let (posts, inboxes) = mailboxes(alloc, 3, 4)?;
+    cleared::<Brand>(alloc, config, posts, inboxes)
 }
 
 // The desks are made and closed again. This number of journals is left.

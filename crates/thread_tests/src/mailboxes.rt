@@ -64,7 +64,9 @@ impl Next {
 // The next letter is the next of its sender.
 fn is_next<R: Wait>(rt: &R, inbox: &mut Inbox, next: &mut Next) -> bool {
     let (from, letter) = inbox.receive(rt);
-    next.is(from, &letter)
+    let fits = next.is(from, &letter);
+    drop(letter);
+    fits
 }
 
 // Two letters that are sent to actor 1 arrive in order, from actor 0.
@@ -111,10 +113,24 @@ fn receive_all<R: Wait>(rt: &R, inbox: &mut Inbox) -> bool {
 // What the thread of the actor of this number does: it receives, or it sends.
 fn work<R: Wait + Clock>(rt: &R, number: usize, post: Post, inbox: Inbox, pauses: bool) -> bool {
     let (mut post, mut inbox) = (post, inbox);
+    let fits = has_worked(rt, number, &mut post, &mut inbox, pauses);
+    drop(post);
+    drop(inbox);
+    fits
+}
+
+// With these mailboxes, which it is lent: whether each letter is as it should be.
+fn has_worked<R: Wait + Clock>(
+    rt: &R,
+    number: usize,
+    post: &mut Post,
+    inbox: &mut Inbox,
+    pauses: bool,
+) -> bool {
     if number < RECEIVERS as usize {
-        receive_all(rt, &mut inbox)
+        receive_all(rt, inbox)
     } else {
-        send_all(rt, &mut post, pauses)
+        send_all(rt, post, pauses)
     }
 }
 
@@ -127,11 +143,24 @@ fn start_all<R: Threads + Wait + Clock + Copy + Send + 'static>(
     pauses: bool,
 ) -> Result<(), Fail> {
     for _ in 0..ACTORS {
-        let post = posts.pop().ok_or("post")?;
-        let inbox = inboxes.pop().ok_or("inbox")?;
-        threads.push(start(rt, posts.len(), post, inbox, pauses)?)?;
+        threads.push(start_last(rt, posts, inboxes, pauses)?)?;
     }
     Ok(())
+}
+
+// Starts a thread for the last of these actors, which is then no longer among them.
+fn start_last<R: Threads + Wait + Clock + Copy + Send + 'static>(
+    rt: R,
+    posts: &mut Vec<Post>,
+    inboxes: &mut Vec<Inbox>,
+    pauses: bool,
+) -> Result<JoinHandle<bool>, Fail> {
+    let post = posts.pop().ok_or("post")?;
+    let Some(inbox) = inboxes.pop() else {
+        drop(post);
+        return Err("inbox".into());
+    };
+    start(rt, posts.len(), post, inbox, pauses)
 }
 
 // Starts a thread for the actor of this number.
@@ -144,7 +173,10 @@ fn start<R: Threads + Wait + Clock + Copy + Send + 'static>(
 ) -> Result<JoinHandle<bool>, Fail> {
     match thread::spawn(&rt, move || work(&rt, number, post, inbox, pauses)) {
         Ok(started) => Ok(started),
-        Err(_) => Err("thread".into()),
+        Err(refused) => {
+            drop(refused);
+            Err("thread".into())
+        }
     }
 }
 
@@ -169,14 +201,16 @@ fn all_arrive<R: Threads + Wait + Clock + Copy + Send + 'static>(
     Ok(all_end_well(&rt, threads))
 }
 
-#[test]
-fn letters_of_eight_threads_arrive_in_order(rt: HostRuntime) -> Result<(), Fail> {
-    assert!(rt; all_arrive(rt, rt.alloc(), false)?);
-    Ok(())
-}
+/// What eight threads send, and whether they pause.
+const EIGHT: &[(&str, bool)] = &[
+    ("letters of eight threads", false),
+    ("letters of eight threads that pause", true),
+];
 
 #[test]
-fn letters_of_eight_threads_that_pause_arrive_in_order(rt: HostRuntime) -> Result<(), Fail> {
-    assert!(rt; all_arrive(rt, rt.alloc(), true)?);
+fn letters_of_eight_threads_arrive_in_order(rt: HostRuntime) -> Result<(), Fail> {
+    for (shows, pauses) in EIGHT {
+        assert!(rt; all_arrive(rt, rt.alloc(), *pauses)?, "{shows}");
+    }
     Ok(())
 }

@@ -1,6 +1,6 @@
 //! What one actor does at its desk, while the others are played by hand.
 
-ghost use Rattle.std.specs.Prelude.{◌≡◌, ◌≤◌, ◌<◌, ◌+◌, ℕ};
+ghost use Rattle.std.specs.Prelude.{◌≡◌, ◌≤◌, ◌<◌, ◌+◌, ℕ, length};
 ghost use Rattle.actor_desk.specs.Desks.{IsNew};
 ghost use Rattle.rank_mail.specs.Mailboxes.{places_of};
 
@@ -96,11 +96,12 @@ fn is_played_over<R: Wait + Copy, M: Mailing, P: Part>(
     requires mail { M.places ≡ places_of mail.inboxes.items }
 {
     let (desk, mut others) = cast::<M>(alloc, config, mail, script.number)?;
-    let fits = plays(rt, alloc, config, script, part, desk, &mut others)?;
-    Ok(others.has_entered(alloc, script.entries)? && fits)
+    let fits = plays(rt, alloc, config, script, part, desk, &mut others);
+    drop(others);
+    fits
 }
 
-// The actor plays its part at this desk, and these hear what stands in the script.
+// The actor plays its part at this desk, these hear what stands in the script, and so many entries are there then.
 fn plays<R: Wait + Copy, M: Mailing, P: Part>(
     rt: R,
     alloc: Global,
@@ -114,11 +115,16 @@ fn plays<R: Wait + Copy, M: Mailing, P: Part>(
     requires number { script.now.number < config.ranks + config.servers }
     requires ranks { config.ranks ≡ 3 }
     requires few { config.servers ≤ 2 }
+    requires seven { length M.places ≡ 7 }
     requires desk { IsNew config script.now.number desk }
 {
-    say(&rt, alloc, script, others)?;
+    if say(&rt, alloc, script, others).is_err() {
+        drop(desk);
+        return Err(NoMemory);
+    }
     let fits = part.play(rt, alloc, config, script.number, desk, others)?;
-    Ok(are_told(&rt, config, script, part, others) && fits)
+    let told = are_told(&rt, config, script, part, others);
+    Ok(others.have_entered(alloc, script.entries)? && told && fits)
 }
 
 // All that the script says is put into the mailbox of the actor.

@@ -7,7 +7,6 @@ ghost use Rattle.adlb_unit.specs.declared.notes.Trouble.{Trouble};
 ghost use Rattle.thread_tests.specs.declared.programs.Plan.{Plan};
 
 use adlb_unit::{Payload, Rank, Target, Trouble, Types, WorkType};
-use bag_ledger::Body;
 use rank_client::{Adlb, EndFault, PutFault, RankProgram};
 use std::alloc::{AllocError, Global};
 
@@ -199,8 +198,8 @@ pub fn put<A: Adlb>(alloc: Global, link: &mut A, target: Target) -> Result<(), P
     }
 }
 
-/// Waits for a unit, and fetches its bytes, or leaves it with its server.
-pub fn take<A: Adlb>(link: &mut A, fetches: bool) -> Result<Option<Body>, EndFault>
+/// Waits for a unit, and fetches its bytes, or leaves it with its server. Whether it got the bytes `c` with the common part `ab`.
+pub fn take<A: Adlb>(link: &mut A, fetches: bool) -> Result<bool, EndFault>
     requires running { has_finished (A.link link.old).said ≡ false }
     ensures running { has_finished (A.link link.new).said ≡ false }
     ensures seat { (A.link link.new).seat ≡ (A.link link.old).seat }
@@ -210,10 +209,10 @@ pub fn take<A: Adlb>(link: &mut A, fetches: bool) -> Result<Option<Body>, EndFau
     let handle = link.reserve(&Types::any())?;
     if !fetches {
         link.leave(handle);
-        return Ok(None);
+        return Ok(false);
     }
     match link.get_reserved(handle) {
-        Ok(body) => Ok(Some(body)),
+        Ok(body) => Ok(body.runs() == (b"ab".as_slice(), b"c".as_slice())),
         Err((handle, trouble)) => {
             let _ = handle.spend();
             match trouble {

@@ -61,12 +61,13 @@ fn has_ended<M: Mailing>(
     others: &mut Others<M>,
 ) -> Result<bool, NoMemory> {
     let RankEnd {
+        said,
         outcome,
         fault,
         own,
         desk,
-        ..
     } = end;
+    drop(said);
     others.put_back(desk)?;
     Ok(outcome == wanted.outcome && fault == wanted.fault.0 && own == wanted.fault.1)
 }

@@ -54,11 +54,16 @@ pub fn run<T: Spawner, G: Gate + Send + Drop + 'static>(
     programs: Vec<Worker>,
 ) -> Result<RunEnd, Fail> {
     let ranks = programs.len().min(32) as u32;
-    let config = Config::new(ranks, servers, 1 << 20)?;
-    if programs.len() != config.ranks as usize {
-        return Err("programs".into());
+    match Config::new(ranks, servers, 1 << 20) {
+        Ok(config) if programs.len() == config.ranks as usize => {
+            end_of(alloc, run_ranks(alloc, config, programs, threads, gate))
+        }
+        _ => {
+            drop(programs);
+            drop(gate);
+            Err("ranks or servers".into())
+        }
     }
-    end_of(alloc, run_ranks(alloc, config, programs, threads, gate))
 }
 
 /// Ranks and servers.

@@ -26,7 +26,7 @@ pub struct Scene<'a> {
 }
 
 /// What there is before a letter, this letter, and what comes after it. The server's fault, and the ranks that are told of it.
-pub type Row<'a> = (&'a Scene<'a>, Line, &'a [Line], Fault, &'a [u32]);
+pub type Row<'a> = (&'a Scene<'a>, &'a Line, &'a [Line], Fault, &'a [u32]);
 
 // The part of a server with this fault, of which it tells these ranks, and the other server if there is one.
 #[derive(Clone, Copy)]
@@ -69,18 +69,19 @@ fn has_ended<M: Mailing>(
     others: &mut Others<M>,
 ) -> Result<bool, NoMemory> {
     let ServerEnd {
+        left,
         fault,
         own,
         desk,
-        ..
     } = end;
+    drop(left);
     others.put_back(desk)?;
     Ok(fault == wanted.0 && own == wanted.1)
 }
 
 /// The server ends as the row says, and tells whom the row says.
 pub fn is_served<R: Wait + Copy>(rt: R, alloc: Global, row: &Row) -> Result<bool, Fail> {
-    let (scene, line, after, fault, ranks) = row;
+    let (scene, line, after, fault, ranks) = *row;
     if scene.me < POOL {
         return Err("a rank".into());
     }
@@ -93,10 +94,7 @@ pub fn is_served<R: Wait + Copy>(rt: R, alloc: Global, row: &Row) -> Result<bool
         heard: scene.heard,
         entries: Some(scene.entries),
     };
-    let part = Serves {
-        fault: *fault,
-        ranks,
-    };
+    let part = Serves { fault, ranks };
     is_played(rt, alloc, &script, &part)
 }
 
@@ -114,15 +112,15 @@ const ONE_LEFT: Scene = Scene {
 const ENDS: &[Row] = &[
     (
         &ONE_LEFT,
-        (0, 1, Says::Bytes(7, b"abc")),
+        &(0, 1, Says::Bytes(7, b"abc")),
         &[(0, 1, Says::Reserve), (0, 0, Says::Gone(Trouble::Memory))],
         (Some(ActorFault::Unexpected { from: 0 }), false),
         &[0],
     ),
-    (&ONE_LEFT, (0, LATE, Says::Finish), &[], OWN, &[]),
+    (&ONE_LEFT, &(0, LATE, Says::Finish), &[], OWN, &[]),
     (
         &ONE_LEFT,
-        (0, LATE - 1, Says::Finish),
+        &(0, LATE - 1, Says::Finish),
         &[],
         (None, false),
         &[],

@@ -28,10 +28,9 @@ fn entry((stamp, actor, number): Told) -> Entry {
     }
 }
 
-// The entries of up to 63 events of an actor, whose stamps rise by up to 4, each with up to 3 entries.
-fn made(alloc: Global, actor: u32) -> Result<Vec<Told>, AllocError> {
+// Adds what the entries of up to 63 events of an actor tell. Their stamps rise by up to 4, and each event has up to 3 entries.
+fn make(all: &mut Vec<Told>, actor: u32) -> Result<(), AllocError> {
     let mut word = next(u64::from(actor));
-    let mut all = Vec::new(alloc);
     let mut stamp = 0u64;
     for _ in 0..word >> 33 & 63 {
         word = next(word);
@@ -40,32 +39,34 @@ fn made(alloc: Global, actor: u32) -> Result<Vec<Told>, AllocError> {
             all.push((stamp, actor, number))?;
         }
     }
-    Ok(all)
+    Ok(())
 }
 
 // That of all actors.
-fn all_made(alloc: Global) -> Result<Vec<Vec<Told>>, AllocError> {
+fn all_made(alloc: Global) -> Result<Vec<Told>, AllocError> {
     let mut all = Vec::new(alloc);
     for actor in 0..ACTORS {
-        all.push(made(alloc, actor)?)?;
+        make(&mut all, actor)?;
     }
     Ok(all)
 }
 
-// An actor kept entries that tell this.
-fn kept(alloc: Global, made: &[Told]) -> Result<Kept, NoMemory> {
+// The actor of this number kept entries that tell what is its own of this.
+fn kept(alloc: Global, made: &[Told], actor: u32) -> Result<Kept, NoMemory> {
     let mut kept = Kept::new(alloc);
     for told in made {
-        keep(&mut kept, told.0, entry(*told))?;
+        if told.1 == actor {
+            keep(&mut kept, told.0, entry(*told))?;
+        }
     }
     Ok(kept)
 }
 
 // So did all actors.
-fn all_kept(alloc: Global, lists: &[Vec<Told>]) -> Result<Vec<Kept>, Fail> {
+fn all_kept(alloc: Global, made: &[Told]) -> Result<Vec<Kept>, Fail> {
     let mut all = Vec::new(alloc);
-    for list in lists {
-        all.push(kept(alloc, list)?)?;
+    for actor in 0..ACTORS {
+        all.push(kept(alloc, made, actor)?)?;
     }
     Ok(all)
 }
@@ -77,33 +78,25 @@ fn told(entry: &Entry) -> Told {
     }
 }
 
-// What all entries tell, sorted.
-fn sorted(alloc: Global, lists: &[Vec<Told>]) -> Result<Vec<Told>, AllocError> {
-    let mut all = Vec::new(alloc);
-    for list in lists {
-        all.extend_from_slice(list)?;
-    }
-    all.sort()?;
-    Ok(all)
-}
-
-// The ledger has these entries, in this order.
-fn is_in_order(alloc: Global, ledger: &Ledger, expected: &[Told]) -> Result<bool, NoMemory> {
+// The ledger has these entries, in the order of a sort.
+fn is_in_order(alloc: Global, ledger: &Ledger, made: &mut Vec<Told>) -> Result<bool, Fail> {
+    made.sort()?;
     let entries = ledger.list(alloc)?;
-    let mut pairs = entries.iter().zip(expected);
-    Ok(entries.len() == expected.len() && pairs.all(|(entry, wanted)| told(entry) == *wanted))
+    let mut pairs = entries.iter().zip(made.as_slice());
+    Ok(entries.len() == made.len() && pairs.all(|(entry, wanted)| told(entry) == *wanted))
 }
 
 // What these actors kept is merged as their entries are sorted.
-fn is_sort(alloc: Global, lists: &[Vec<Told>]) -> Result<bool, Fail> {
-    let ledger = merge(alloc, all_kept(alloc, lists)?)?;
-    let sorted = sorted(alloc, lists)?;
-    Ok(sorted.len() > 500 && is_in_order(alloc, &ledger, &sorted)?)
+fn is_sort(alloc: Global, made: &mut Vec<Told>) -> Result<bool, Fail> {
+    let ledger = merge(alloc, all_kept(alloc, made.as_slice())?)?;
+    let fits = is_in_order(alloc, &ledger, made);
+    drop(ledger);
+    Ok(fits? && made.len() > 500)
 }
 
 #[test]
 fn a_merge_is_a_sort(rt: HostRuntime) -> Result<(), Fail> {
-    let lists = all_made(rt.alloc())?;
-    assert!(rt; is_sort(rt.alloc(), &lists)?);
+    let mut made = all_made(rt.alloc())?;
+    assert!(rt; is_sort(rt.alloc(), &mut made)?);
     Ok(())
 }

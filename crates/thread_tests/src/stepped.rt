@@ -8,7 +8,7 @@ use adlb_unit::{
 use bag_ledger::{Call, Entry};
 use ledger_checker::first_illegal;
 use merge_history::merge;
-use packed_ledger::Kept;
+use packed_ledger::{Kept, Ledger};
 use rank_client::{ClientCore, ClientStep};
 use server_core::{ServerState, Spare, Step};
 use std::alloc::Global;
@@ -53,11 +53,12 @@ fn unit(number: u64) -> UnitId {
     }
 }
 
-// What an actor keeps of its events, and how many there were.
+// What an actor keeps of its events, how many there were, and what the last of them sends.
 #[derive(Drop)]
 struct Journal {
     events: usize,
     kept: Kept,
+    sends: Vec<Sending>,
 }
 
 impl Journal {
@@ -65,26 +66,29 @@ impl Journal {
         Journal {
             events: 0,
             kept: Kept::new(alloc),
+            sends: Vec::new(alloc),
         }
     }
 
-    // Keeps the entries of one event more, and gives back its letter, if there is one.
-    fn keep(
-        &mut self,
-        stamp: u64,
-        sends: Vec<Sending>,
-        entries: Vec<Entry>,
-    ) -> Result<Option<Letter>, Fail> {
-        self.enter(stamp, entries)?;
-        Ok(letter(sends))
+    // Keeps the entries of one event more, of this stamp, and what it sends.
+    fn enter(&mut self, stamp: u64, sends: Vec<Sending>, entries: Vec<Entry>) -> Result<(), Fail> {
+        drop(mem::replace(&mut self.sends, sends));
+        self.events = self.events.wrapping_add(1);
+        self.enter_all(stamp, entries)
     }
 
-    fn enter(&mut self, stamp: u64, entries: Vec<Entry>) -> Result<(), Fail> {
-        self.events = self.events.wrapping_add(1);
+    // Keeps these entries, of an event of this stamp.
+    fn enter_all(&mut self, stamp: u64, entries: Vec<Entry>) -> Result<(), Fail> {
         for entry in entries {
             keep(&mut self.kept, stamp, entry)?;
         }
         Ok(())
+    }
+
+    // The letter that was sent, which is then taken. No event here sends more than one.
+    fn letter(&mut self) -> Option<Letter> {
+        let Sending { letter, .. } = self.sends.pop()?;
+        Some(letter)
     }
 
     // All that is kept, which is then kept no longer.
@@ -93,58 +97,63 @@ impl Journal {
     }
 }
 
-// The letter that is sent. No event here sends more than one.
-fn letter(sends: Vec<Sending>) -> Option<Letter> {
-    let mut sends = sends;
-    let Sending { letter, .. } = sends.pop()?;
-    Some(letter)
-}
-
-// The rank with its journal so far.
+// The rank, the step that is lent to it, and its journal so far.
 #[derive(Drop)]
 struct SteppedRank {
     client: ClientCore,
+    step: ClientStep,
     journal: Journal,
 }
 
 impl SteppedRank {
     fn new(alloc: Global, config: Config) -> Result<SteppedRank, Fail> {
-        Ok(SteppedRank {
-            client: ClientCore::new(alloc, config, Rank(0))?,
-            journal: Journal::new(alloc),
-        })
+        let step = ClientStep::new(alloc)?;
+        match ClientCore::new(alloc, config, Rank(0)) {
+            Ok(client) => Ok(SteppedRank {
+                client,
+                step,
+                journal: Journal::new(alloc),
+            }),
+            Err(fault) => {
+                drop(step);
+                Err(fault.into())
+            }
+        }
     }
 
-    // The rank begins the call of this number: what it sends.
-    fn begin(&mut self, alloc: Global, number: u32) -> Result<Option<Letter>, Fail> {
+    // The rank begins the call of this number.
+    fn begin(&mut self, alloc: Global, number: u32) -> Result<(), Fail> {
         let made = call(alloc, number)?;
         if !self.client.ready(&made) {
+            drop(made);
             return Err("not ready".into());
         }
-        let mut step = ClientStep::new(alloc)?;
-        self.client.begin(&mut step, made)?;
-        self.keep(step)
+        self.client.begin(&mut self.step, made)?;
+        self.keep(alloc)
     }
 
-    // The rank hears the letter of the server: what it sends, if its call goes on.
-    fn hear(&mut self, alloc: Global, letter: Letter) -> Result<Option<Letter>, Fail> {
+    // The rank hears the letter of the server.
+    fn hear(&mut self, alloc: Global, letter: Letter) -> Result<(), Fail> {
         if !self.client.expects(Server(0), &letter) {
+            drop(letter);
             return Err("not expected by the rank".into());
         }
-        let mut step = ClientStep::new(alloc)?;
-        self.client.hear(&mut step, Server(0), letter)?;
-        self.keep(step)
+        self.client.hear(&mut self.step, Server(0), letter)?;
+        self.keep(alloc)
     }
 
-    // Keeps what the step enters in the journal: what it sends.
-    fn keep(&mut self, step: ClientStep) -> Result<Option<Letter>, Fail> {
+    // Keeps what the step gave in the journal. The next event has a new one.
+    fn keep(&mut self, alloc: Global) -> Result<(), Fail> {
+        let next = ClientStep::new(alloc)?;
         let ClientStep {
             stamp,
             sends,
             entries,
+            answer,
             ..
-        } = step;
-        self.journal.keep(stamp, sends, entries)
+        } = mem::replace(&mut self.step, next);
+        drop(answer);
+        self.journal.enter(stamp, sends, entries)
     }
 }
 
@@ -163,9 +172,10 @@ impl SteppedServer {
         })
     }
 
-    // The server handles the letter of the rank: what it answers.
-    fn serve(&mut self, alloc: Global, letter: Letter) -> Result<Option<Letter>, Fail> {
+    // The server handles the letter of the rank.
+    fn serve(&mut self, alloc: Global, letter: Letter) -> Result<(), Fail> {
         if self.server.broken().is_some() || !self.server.expects(RANK, &letter) {
+            drop(letter);
             return Err("not expected by the server".into());
         }
         let Step {
@@ -173,7 +183,7 @@ impl SteppedServer {
             sends,
             entries,
         } = self.server.step(Spare::new(alloc), RANK, letter)?;
-        self.journal.keep(stamp, sends, entries)
+        self.journal.enter(stamp, sends, entries)
     }
 }
 
@@ -184,27 +194,37 @@ fn round(
     server: &mut SteppedServer,
     number: u32,
 ) -> Result<(), Fail> {
-    let mut next = rank.begin(alloc, number)?;
+    rank.begin(alloc, number)?;
     for _ in 0..3 {
-        let Some(letter) = next else {
+        if !is_exchanged(alloc, rank, server)? {
             return Ok(());
-        };
-        next = exchange(alloc, rank, server, letter)?;
+        }
     }
     Err("a call goes on".into())
 }
 
-// The server handles the letter, and the rank hears what it answers: what it sends then.
-fn exchange(
+// The server handles the letter that the rank has sent, and the rank hears what it answers. Whether there was a letter.
+fn is_exchanged(
     alloc: Global,
     rank: &mut SteppedRank,
     server: &mut SteppedServer,
-    letter: Letter,
-) -> Result<Option<Letter>, Fail> {
-    match server.serve(alloc, letter)? {
-        Some(answer) => rank.hear(alloc, answer),
-        None => Ok(None),
+) -> Result<bool, Fail> {
+    let Some(asked) = rank.journal.letter() else {
+        return Ok(false);
+    };
+    server.serve(alloc, asked)?;
+    if let Some(answer) = server.journal.letter() {
+        rank.hear(alloc, answer)?;
     }
+    Ok(true)
+}
+
+// The ledger of both.
+fn merged(alloc: Global, rank: &mut Journal, server: &mut Journal) -> Result<Ledger, Fail> {
+    let mut kept = Vec::new(alloc);
+    kept.push(rank.take(alloc))?;
+    kept.push(server.take(alloc))?;
+    Ok(merge(alloc, kept)?)
 }
 
 // How many events there were after all ten calls, and how many entries their ledger has; and the first entry that is not legal.
@@ -218,10 +238,11 @@ fn counts(
         round(alloc, rank, server, number)?;
     }
     let events = rank.journal.events.wrapping_add(server.journal.events);
-    let kept = vec![in alloc; rank.journal.take(alloc), server.journal.take(alloc)]?;
-    let ledger = merge(alloc, kept)?;
-    let illegal = first_illegal(alloc, &ledger, config)?;
-    Ok((events, ledger.len(), illegal))
+    let ledger = merged(alloc, &mut rank.journal, &mut server.journal)?;
+    let illegal = first_illegal(alloc, &ledger, config);
+    let entries = ledger.len();
+    drop(ledger);
+    Ok((events, entries, illegal?))
 }
 
 // The rank and a server take all steps.
@@ -231,12 +252,16 @@ fn counted_of(
     rank: &mut SteppedRank,
 ) -> Result<(usize, u64, Option<u64>), Fail> {
     let mut server = SteppedServer::new(alloc, *config)?;
-    counts(alloc, config, rank, &mut server)
+    let counted = counts(alloc, config, rank, &mut server);
+    drop(server);
+    counted
 }
 
 fn counted(alloc: Global, config: &Config) -> Result<(usize, u64, Option<u64>), Fail> {
     let mut rank = SteppedRank::new(alloc, *config)?;
-    counted_of(alloc, config, &mut rank)
+    let counted = counted_of(alloc, config, &mut rank);
+    drop(rank);
+    counted
 }
 
 #[test]

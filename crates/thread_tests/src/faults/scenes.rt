@@ -6,8 +6,66 @@ use crate::says::{Line, Says, TOO_LONG};
 use crate::servers::Scene;
 use adlb_unit::Trouble;
 
-/// Rank 0 waits at server 0, its home, which asks server 1.
-pub const WAITS: Scene = Scene {
+/// What there is before the letter at which a server breaks.
+pub enum Before {
+    Waits,
+    OneLess,
+    Puts,
+    Holds,
+    Keeps,
+    Pressed,
+    Sent,
+    Promised,
+    Quiet,
+    Elsewhere,
+}
+
+impl Before {
+    /// Its scene.
+    pub fn scene(&self) -> &'static Scene<'static> {
+        match self {
+            Before::Waits => WAITS,
+            Before::OneLess => ONE_LESS,
+            Before::Puts => PUTS,
+            Before::Holds => HOLDS,
+            Before::Keeps => KEEPS,
+            Before::Pressed => PRESSED,
+            Before::Sent => SENT,
+            Before::Promised => PROMISED,
+            Before::Quiet => QUIET,
+            Before::Elsewhere => ELSEWHERE,
+        }
+    }
+}
+
+/// What comes after this letter.
+pub enum After {
+    Later,
+    LaterNext,
+    Without2,
+    Rank0,
+    Finishes,
+    Gone,
+    Absent,
+}
+
+impl After {
+    /// Its letters.
+    pub fn lines(&self) -> &'static [Line] {
+        match self {
+            After::Later => AFTER,
+            After::LaterNext => AFTER_1,
+            After::Without2 => WITHOUT_2,
+            After::Rank0 => RANK_0,
+            After::Finishes => FINISHES,
+            After::Gone => GONE,
+            After::Absent => ABSENT,
+        }
+    }
+}
+
+// Rank 0 waits at server 0, its home, which asks server 1.
+const WAITS: &Scene = &Scene {
     me: POOL,
     alone: false,
     said: &[(0, 1, Says::Wait)],
@@ -15,8 +73,8 @@ pub const WAITS: Scene = Scene {
     entries: 0,
 };
 
-/// Besides, rank 1 has finished.
-pub const ONE_LESS: Scene = Scene {
+// Besides, rank 1 has finished.
+const ONE_LESS: &Scene = &Scene {
     me: POOL,
     alone: false,
     said: &[(0, 1, Says::Wait), (1, 1, Says::Finish)],
@@ -24,8 +82,8 @@ pub const ONE_LESS: Scene = Scene {
     entries: 0,
 };
 
-/// Or rank 2 has put a unit.
-pub const PUTS: Scene = Scene {
+// Or rank 2 has put a unit.
+const PUTS: &Scene = &Scene {
     me: POOL,
     alone: false,
     said: &[(0, 1, Says::Wait), (2, 1, Says::Put)],
@@ -33,8 +91,8 @@ pub const PUTS: Scene = Scene {
     entries: 1,
 };
 
-/// And it was granted that unit.
-pub const HOLDS: Scene = Scene {
+// And it was granted that unit.
+const HOLDS: &Scene = &Scene {
     me: POOL,
     alone: false,
     said: &[(0, 1, Says::Wait), (2, 1, Says::Put), (2, 1, Says::Reserve)],
@@ -42,8 +100,8 @@ pub const HOLDS: Scene = Scene {
     entries: 2,
 };
 
-/// Or it has begun a batch.
-pub const KEEPS: Scene = Scene {
+// Or it has begun a batch.
+const KEEPS: &Scene = &Scene {
     me: POOL,
     alone: false,
     said: &[(0, 1, Says::Wait), (2, 1, Says::Keep)],
@@ -51,8 +109,8 @@ pub const KEEPS: Scene = Scene {
     entries: 1,
 };
 
-/// Or it has put a unit by which the server is pressed.
-pub const PRESSED: Scene = Scene {
+// Or it has put a unit by which the server is pressed.
+const PRESSED: &Scene = &Scene {
     me: POOL,
     alone: false,
     said: &[(0, 1, Says::Wait), (2, 1, Says::PutLong)],
@@ -60,8 +118,8 @@ pub const PRESSED: Scene = Scene {
     entries: 1,
 };
 
-/// And the unit has gone to server 1.
-pub const SENT: Scene = Scene {
+// And the unit has gone to server 1.
+const SENT: &Scene = &Scene {
     me: POOL,
     alone: false,
     said: &[
@@ -78,8 +136,8 @@ pub const SENT: Scene = Scene {
     entries: 2,
 };
 
-/// Or room was promised to a unit of server 1.
-pub const PROMISED: Scene = Scene {
+// Or room was promised to a unit of server 1.
+const PROMISED: &Scene = &Scene {
     me: POOL,
     alone: false,
     said: &[(0, 1, Says::Wait), (4, 1, Says::PushQuery)],
@@ -87,8 +145,8 @@ pub const PROMISED: Scene = Scene {
     entries: 1,
 };
 
-/// Ranks 0 and 2 wait, nothing is elsewhere, and a check has begun.
-pub const QUIET: Scene = Scene {
+// Ranks 0 and 2 wait, nothing is elsewhere, and a check has begun.
+const QUIET: &Scene = &Scene {
     me: POOL,
     alone: false,
     said: &[
@@ -101,8 +159,8 @@ pub const QUIET: Scene = Scene {
     entries: 0,
 };
 
-/// Rank 1 waits at server 1, its home, which asks server 0.
-pub const ELSEWHERE: Scene = Scene {
+// Rank 1 waits at server 1, its home, which asks server 0.
+const ELSEWHERE: &Scene = &Scene {
     me: NEXT,
     alone: false,
     said: &[(1, 1, Says::Wait)],
@@ -110,8 +168,8 @@ pub const ELSEWHERE: Scene = Scene {
     entries: 0,
 };
 
-/// Ranks 0 and 2 are gone. Rank 1 asks meanwhile, and finishes last. What servers and the caller say then changes nothing.
-pub const AFTER: &[Line] = &[
+// Ranks 0 and 2 are gone. Rank 1 asks meanwhile, and finishes last. What servers and the caller say then changes nothing.
+const AFTER: &[Line] = &[
     (0, 0, Says::Gone(Trouble::Memory)),
     (4, 1, Says::Ask),
     (5, 0, Says::Abort(Trouble::Memory, 0)),
@@ -120,8 +178,8 @@ pub const AFTER: &[Line] = &[
     (1, 1, Says::Finish),
 ];
 
-/// As `AFTER`, at server 1: rank 0 asks.
-pub const AFTER_1: &[Line] = &[
+// As `AFTER`, at server 1: rank 0 asks.
+const AFTER_1: &[Line] = &[
     (2, 0, Says::Gone(Trouble::Memory)),
     (3, 0, Says::Abort(Trouble::Memory, 0)),
     (1, 0, Says::Gone(Trouble::Memory)),
@@ -129,34 +187,34 @@ pub const AFTER_1: &[Line] = &[
     (0, 1, Says::Finish),
 ];
 
-/// As `AFTER`, where rank 2 says no more.
-pub const WITHOUT_2: &[Line] = &[
+// As `AFTER`, where rank 2 says no more.
+const WITHOUT_2: &[Line] = &[
     (0, 0, Says::Gone(Trouble::Memory)),
     (4, 0, Says::Abort(Trouble::Memory, 0)),
     (1, 1, Says::Try),
     (1, 1, Says::Finish),
 ];
 
-/// No more comes of ranks 1 and 2.
-pub const RANK_0: &[Line] = &[(0, 0, Says::Gone(Trouble::Memory))];
+// No more comes of ranks 1 and 2.
+const RANK_0: &[Line] = &[(0, 0, Says::Gone(Trouble::Memory))];
 
-/// No rank asks any more.
-pub const FINISHES: &[Line] = &[
+// No rank asks any more.
+const FINISHES: &[Line] = &[
     (2, 1, Says::Finish),
     (1, 1, Says::Finish),
     (0, 0, Says::Gone(Trouble::Memory)),
 ];
 
-/// Rank 2 is gone, and then rank 1 asks, and each other rank is gone.
-pub const GONE: &[Line] = &[
+// Rank 2 is gone, and then rank 1 asks, and each other rank is gone.
+const GONE: &[Line] = &[
     (2, 0, Says::Gone(TOO_LONG)),
     (1, 1, Says::Try),
     (0, 0, Says::Gone(TOO_LONG)),
     (1, 0, Says::Gone(TOO_LONG)),
 ];
 
-/// Rank 2 was not started, as is told late.
-pub const ABSENT: &[Line] = &[
+// Rank 2 was not started, as is told late.
+const ABSENT: &[Line] = &[
     (0, 0, Says::Gone(Trouble::Memory)),
     (5, 0, Says::Abort(Trouble::Memory, 1)),
     (1, 1, Says::Finish),

@@ -70,12 +70,16 @@ fn runs<R: Threads + Wait + Send + Copy + 'static>(
 ) -> Result<RunEnd, Fail> {
     let programs = workers(alloc, ranks, crew)?;
     let (seen, points) = bounded(alloc, 1)?;
-    let ran = run(alloc, threads, SeenGate { rt, seen }, servers, programs)?;
+    let ran = run(alloc, threads, SeenGate { rt, seen }, servers, programs);
     let _ = points.try_recv(&rt);
-    if matches!(points.try_recv(&rt), Err(TryRecvError::Disconnected)) {
-        return Ok(ran);
+    let over = matches!(points.try_recv(&rt), Err(TryRecvError::Disconnected));
+    drop(points);
+    let ran = ran?;
+    if over {
+        Ok(ran)
+    } else {
+        Err("a rank's work goes on".into())
     }
-    Err("a rank's work goes on".into())
 }
 
 // If there is a start of this number, it is refused, no later one is tried, and all threads that were started have ended.
@@ -88,8 +92,10 @@ fn is_refused<R: Threads + Wait + Send + Copy + 'static>(
 ) -> Result<bool, Fail> {
     let all = u64::from(size.0).saturating_add(u64::from(size.1));
     let mut threads = counted(rt, alloc, start)?;
-    let ran = runs(rt, alloc, size, crew, &mut threads)?;
+    let ran = runs(rt, alloc, size, crew, &mut threads);
     let counts = (threads.calls, threads.starts, threads.faults);
+    drop(threads);
+    let ran = ran?;
     if start > all {
         return Ok(ran.is_ok() && counts == (all, all, 0));
     }
@@ -111,28 +117,33 @@ fn each_is_refused<R: Threads + Wait + Send + Copy + 'static>(
     Ok(true)
 }
 
-const REFUSED: &[Size] = &[(2, 1), (32, 1), (1, 2), (3, 8), (32, 8)];
+// Each rank puts three units, and takes units until an end is told.
+const WORKERS: Crew = (&[], Plan::Works(3));
+
+// Some ranks wait for units that never come, one finishes at once, and one fails.
+const WAITING: Crew = (&[Plan::Waits, Plan::Leaves, Plan::Batches], Plan::Waits);
+
+// What a refused start ends, what the ranks do, and the size of the run.
+const REFUSED: &[(&str, Crew, Size)] = &[
+    ("the run", WORKERS, (2, 1)),
+    ("the run", WORKERS, (32, 1)),
+    ("the run", WORKERS, (1, 2)),
+    ("the run", WORKERS, (3, 8)),
+    ("the run", WORKERS, (32, 8)),
+    ("all that were started", WAITING, (2, 2)),
+    ("all that were started", WAITING, (1, 1)),
+    ("all that were started", WAITING, (3, 1)),
+    ("all that were started", WAITING, (1, 3)),
+    ("all that were started", WAITING, (6, 4)),
+];
 
 #[test]
 fn a_refused_start_ends_the_run(rt: HostRuntime) -> Result<(), Fail> {
-    for size in REFUSED {
+    for (ends, crew, size) in REFUSED {
         assert!(rt;
-            each_is_refused(rt, rt.alloc(), *size, (&[], Plan::Works(3)))?,
-            "{size:?}"
+            each_is_refused(rt, rt.alloc(), *size, *crew)?,
+            "{ends}: {size:?}"
         );
-    }
-    Ok(())
-}
-
-const SIZES: &[Size] = &[(2, 2), (1, 1), (3, 1), (1, 3), (6, 4)];
-
-// Some ranks wait for units that never come, one finishes at once, and one fails.
-const CREW: Crew = (&[Plan::Waits, Plan::Leaves, Plan::Batches], Plan::Waits);
-
-#[test]
-fn a_refused_start_ends_all_that_were_started(rt: HostRuntime) -> Result<(), Fail> {
-    for size in SIZES {
-        assert!(rt; each_is_refused(rt, rt.alloc(), *size, CREW)?, "{size:?}");
     }
     Ok(())
 }

@@ -1,6 +1,0 @@
-use Rattle.rank_mail.specs.Mailboxes.{places_of}
-use Rattle.thread_tests.proofs.desks.three_desks_are_cleared.Given as goal
-
--- the mailboxes that were just made
-abbrev pub ghosts-cleared : goal.ghosts-cleared
-ghosts-cleared g a = record { places = places_of a.inboxes.items }
