@@ -7,6 +7,7 @@ ghost use Rattle.adlb_unit.specs.declared.notes.Trouble.{Trouble};
 ghost use Rattle.thread_tests.specs.declared.programs.Plan.{Plan};
 
 use adlb_unit::{Payload, Rank, Target, Trouble, Types, WorkType};
+use bag_ledger::Body;
 use rank_client::{Adlb, EndFault, PutFault, RankProgram};
 use std::alloc::{AllocError, Global};
 
@@ -198,6 +199,13 @@ pub fn put<A: Adlb>(alloc: Global, link: &mut A, target: Target) -> Result<(), P
     }
 }
 
+// Whether these are the bytes `c` with the common part `ab`.
+fn is_c_after_ab(body: Body) -> bool {
+    let fits = body.runs() == (b"ab".as_slice(), b"c".as_slice());
+    drop(body);
+    fits
+}
+
 /// Waits for a unit, and fetches its bytes, or leaves it with its server. Whether it got the bytes `c` with the common part `ab`.
 pub fn take<A: Adlb>(link: &mut A, fetches: bool) -> Result<bool, EndFault>
     requires running { has_finished (A.link link.old).said ≡ false }
@@ -212,7 +220,7 @@ pub fn take<A: Adlb>(link: &mut A, fetches: bool) -> Result<bool, EndFault>
         return Ok(false);
     }
     match link.get_reserved(handle) {
-        Ok(body) => Ok(body.runs() == (b"ab".as_slice(), b"c".as_slice())),
+        Ok(body) => Ok(is_c_after_ab(body)),
         Err((handle, trouble)) => {
             let _ = handle.spend();
             match trouble {

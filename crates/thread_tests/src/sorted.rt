@@ -78,12 +78,19 @@ fn told(entry: &Entry) -> Told {
     }
 }
 
+// These entries tell this, in this order.
+fn are_told(entries: &[Entry], wanted: &[Told]) -> bool {
+    let mut pairs = entries.iter().zip(wanted);
+    entries.len() == wanted.len() && pairs.all(|(entry, wanted)| told(entry) == *wanted)
+}
+
 // The ledger has these entries, in the order of a sort.
 fn is_in_order(alloc: Global, ledger: &Ledger, made: &mut Vec<Told>) -> Result<bool, Fail> {
     made.sort()?;
     let entries = ledger.list(alloc)?;
-    let mut pairs = entries.iter().zip(made.as_slice());
-    Ok(entries.len() == made.len() && pairs.all(|(entry, wanted)| told(entry) == *wanted))
+    let fits = are_told(entries.as_slice(), made.as_slice());
+    drop(entries);
+    Ok(fits)
 }
 
 // What these actors kept is merged as their entries are sorted.
