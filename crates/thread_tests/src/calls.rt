@@ -5,7 +5,7 @@ ghost use Rattle.actor_desk.specs.Desks.{IsNew};
 ghost use Rattle.rank_client.specs.Calls.{has_finished};
 
 use crate::cast::{Others, POOL};
-use crate::gates::SeenGate;
+use crate::gates::LentGate;
 use crate::heard::Heard;
 use crate::parts::{Part, Script, is_played};
 use crate::programs::{begin, put, take};
@@ -20,7 +20,7 @@ use std::sync::Wait;
 use std::test::Fail;
 use thread_client::{ActorFault, LinkEnd, ThreadedLink};
 
-type Link<R, M> = ThreadedLink<R, SeenGate<R>, M>;
+type Link<'a, R, M> = ThreadedLink<R, LentGate<'a, R>, M>;
 
 // A call of rank 0.
 enum Does {
@@ -121,11 +121,11 @@ impl Part for Calls<'_> {
         desk: Desk<M>,
         others: &mut Others<M>,
     ) -> Result<bool, NoMemory> {
-        let Ok(seen) = self.seen.clone() else {
-            drop(desk);
-            return Err(NoMemory);
+        let gate = LentGate {
+            rt,
+            seen: self.seen,
         };
-        let link = Link::<R, M>::new(alloc, rt, config, Rank(number), desk, SeenGate { rt, seen })?;
+        let link = Link::<'_, R, M>::new(alloc, rt, config, Rank(number), desk, gate)?;
         is_told(alloc, link, self.play, others)
     }
 }
@@ -133,7 +133,7 @@ impl Part for Calls<'_> {
 // The calls of the link, which has made none, are told what the play says.
 fn is_told<R: Wait + Copy, M: Mailing>(
     alloc: Global,
-    link: Link<R, M>,
+    link: Link<'_, R, M>,
     play: &Play,
     others: &mut Others<M>,
 ) -> Result<bool, NoMemory>
@@ -146,7 +146,7 @@ fn is_told<R: Wait + Copy, M: Mailing>(
 
 // The link leaves what the play says, or nothing if a batch is going on; and its calls were told what the play says.
 fn is_left<R: Wait + Copy, M: Mailing>(
-    link: Link<R, M>,
+    link: Link<'_, R, M>,
     play: &Play,
     others: &mut Others<M>,
     told: bool,

@@ -26,3 +26,23 @@ impl<R: Wait + Copy> Gate for SeenGate<R> {
         })
     }
 }
+
+/// The same, by a sender that it is lent.
+#[derive(Drop)]
+pub struct LentGate<'a, R: Wait> {
+    pub rt: R,
+    pub seen: &'a Sender<(u32, GatePoint), Global>,
+}
+
+impl<R: Wait + Copy> Gate for LentGate<'_, R> {
+    fn pass(&self, rank: Rank, point: GatePoint) {
+        let _ = self.seen.try_send(&self.rt, (rank.0, point));
+    }
+
+    fn twin(&self) -> Result<Self, NoMemory> {
+        Ok(LentGate {
+            rt: self.rt,
+            seen: self.seen,
+        })
+    }
+}

@@ -80,8 +80,12 @@ fn told(entry: &Entry) -> Told {
 
 // These entries tell this, in this order.
 fn are_told(entries: &[Entry], wanted: &[Told]) -> bool {
-    let mut pairs = entries.iter().zip(wanted);
-    entries.len() == wanted.len() && pairs.all(|(entry, wanted)| told(entry) == *wanted)
+    for (entry, wanted) in entries.iter().zip(wanted) {
+        if told(entry) != *wanted {
+            return false;
+        }
+    }
+    entries.len() == wanted.len()
 }
 
 // The ledger has these entries, in the order of a sort.
