@@ -9,7 +9,6 @@ use bag_ledger::{Answer, Body, Call, Entry};
 use rank_client::{ClientCore, ClientStep};
 use std::alloc::Global;
 use std::fmt::Write;
-use std::mem;
 use std::process::Abort;
 use std::test::Fail;
 
@@ -224,9 +223,8 @@ fn hear(
     Ok(client.hear(step, Server(from), letter)?)
 }
 
-fn is_ready(alloc: Global, client: &ClientCore, makes: Makes) -> Result<String, Fail> {
-    let call = call(alloc, makes)?;
-    yes(alloc, client.ready(&call))
+fn is_ready(alloc: Global, client: &ClientCore, makes: Makes) -> Result<bool, Fail> {
+    Ok(client.ready(&call(alloc, makes)?))
 }
 
 fn expects(
@@ -235,13 +233,8 @@ fn expects(
     from: u32,
     stamp: u64,
     says: Says,
-) -> Result<String, Fail> {
-    let letter = letter(alloc, stamp, says)?;
-    yes(alloc, client.expects(Server(from), &letter))
-}
-
-fn yes(alloc: Global, holds: bool) -> Result<String, Fail> {
-    Ok(String::from_str(alloc, if holds { "yes" } else { "no" })?)
+) -> Result<bool, Fail> {
+    Ok(client.expects(Server(from), &letter(alloc, stamp, says)?))
 }
 
 // To whom letters go, with the batch of a unit, what the end of a batch tells, and that the problem is done.
@@ -312,8 +305,12 @@ fn add_answer(all: &mut String, answer: &Option<Answer>) -> Result<(), Fail> {
     match answer {
         None => Ok(()),
         Some(Answer::Body(body)) => add_body(all, body),
-        Some(other) => Ok(write!(all, " {other:?}")?),
+        Some(other) => add_other(all, other),
     }
+}
+
+fn add_other(all: &mut String, answer: &Answer) -> Result<(), Fail> {
+    Ok(write!(all, " {answer:?}")?)
 }
 
 // The common bytes of a unit, and its own.
@@ -332,436 +329,466 @@ fn add_step(all: &mut String, step: &ClientStep) -> Result<(), Fail> {
     add_answer(all, &step.answer)
 }
 
-// The call that the client began last, how many were answered, and the last of them with its answer.
+// The call that the client began last, and how many were answered.
 #[derive(Drop)]
 struct Told {
     begun: Option<Makes>,
     answered: usize,
-    last: Option<(Makes, Answer)>,
 }
 
 impl Told {
-    // Nothing yet.
-    fn nothing() -> Told {
-        Told {
-            begun: None,
-            answered: 0,
-            last: None,
+    // What a step of the client tells.
+    fn hear(&mut self, line: Line, step: &ClientStep) {
+        if let Line::Begins(makes) = line {
+            self.begun = Some(makes);
         }
-    }
-
-    fn begin(&mut self, makes: Makes) {
-        self.begun = Some(makes);
-    }
-
-    // The call that was begun is answered, if this is an answer.
-    fn hear(&mut self, answer: Option<Answer>) {
-        if let (Some(makes), Some(answer)) = (self.begun, answer) {
+        if matches!(line, Line::Begins(_) | Line::Hears(..)) && step.answer.is_some() {
             self.answered = self.answered.saturating_add(1);
-            drop(mem::replace(&mut self.last, Some((makes, answer))));
         }
     }
 }
 
-// A client of a rank, the step that it makes, and what became of its calls.
-#[derive(Drop)]
-struct Driven {
-    client: ClientCore,
-    step: ClientStep,
-    told: Told,
+// The client makes the call or hears the letter of a line, if there is one.
+fn act(
+    alloc: Global,
+    client: &mut ClientCore,
+    step: &mut ClientStep,
+    line: Line,
+) -> Result<(), Fail> {
+    match line {
+        Line::Begins(makes) => begin(alloc, client, step, makes),
+        Line::Hears(from, stamp, says) => hear(alloc, client, step, from, stamp, says),
+        _ => Ok(()),
+    }
 }
 
-impl Driven {
-    // What a line of a scene gives, as it is shown.
-    fn shown(&mut self, alloc: Global, line: Line) -> Result<String, Fail> {
-        match line {
-            Line::Begins(makes) => self.begins(alloc, makes),
-            Line::Hears(from, stamp, says) => self.hears(alloc, from, stamp, says),
-            Line::IsReady(makes) => is_ready(alloc, &self.client, makes),
-            Line::Expects(from, stamp, says) => expects(alloc, &self.client, from, stamp, says),
-            Line::Answered => count(alloc, self.told.answered),
-            Line::SaidLast => said_last(alloc, &self.told),
+// What a line gives, as it is shown.
+fn add_line(
+    alloc: Global,
+    client: &mut ClientCore,
+    step: &mut ClientStep,
+    told: &mut Told,
+    line: Line,
+    all: &mut String,
+) -> Result<(), Fail> {
+    act(alloc, client, step, line)?;
+    told.hear(line, step);
+    match line {
+        Line::Begins(_) | Line::Hears(..) => add_step(all, step),
+        Line::IsReady(makes) => add_yes(all, is_ready(alloc, client, makes)?),
+        Line::Expects(from, stamp, says) => {
+            add_yes(all, expects(alloc, client, from, stamp, says)?)
+        }
+        Line::Answered => Ok(write!(all, "{}", told.answered)?),
+        Line::SaidLast => add_last(alloc, all, step, told),
+    }
+}
+
+fn add_yes(all: &mut String, holds: bool) -> Result<(), Fail> {
+    Ok(all.push_str(if holds { "yes" } else { "no" })?)
+}
+
+// The call that the client began last, with its answer.
+fn add_last(alloc: Global, all: &mut String, step: &ClientStep, told: &Told) -> Result<(), Fail> {
+    match told.begun {
+        None => Ok(all.push_str("none")?),
+        Some(makes) => {
+            add_call(alloc, all, makes)?;
+            add_answer(all, &step.answer)
         }
     }
-
-    // What the step of a call gives.
-    fn begins(&mut self, alloc: Global, makes: Makes) -> Result<String, Fail> {
-        begin(alloc, &mut self.client, &mut self.step, makes)?;
-        self.told.begin(makes);
-        self.given(alloc)
-    }
-
-    // What the step of a letter gives: from whom it comes, its stamp, and what it says.
-    fn hears(&mut self, alloc: Global, from: u32, stamp: u64, says: Says) -> Result<String, Fail> {
-        hear(alloc, &mut self.client, &mut self.step, from, stamp, says)?;
-        self.given(alloc)
-    }
-
-    fn given(&mut self, alloc: Global) -> Result<String, Fail> {
-        let mut all = String::new(alloc);
-        add_step(&mut all, &self.step)?;
-        self.told.hear(mem::replace(&mut self.step.answer, None));
-        Ok(all)
-    }
 }
 
-fn count(alloc: Global, number: usize) -> Result<String, Fail> {
-    Ok(format!(in alloc; "{number}")?)
+fn add_call(alloc: Global, all: &mut String, makes: Makes) -> Result<(), Fail> {
+    let call = call(alloc, makes)?;
+    Ok(write!(all, "{call:?}")?)
 }
 
-fn said_last(alloc: Global, told: &Told) -> Result<String, Fail> {
-    match &told.last {
-        Some((makes, answer)) => {
-            let call = call(alloc, *makes)?;
-            Ok(format!(in alloc; "{call:?} {answer:?}")?)
-        }
-        None => Ok(String::from_str(alloc, "none")?),
+// What it shows, the number of servers, and the lines, each with what it gives.
+type Scene = (&'static str, u32, &'static [(Line, &'static str)]);
+
+// In each scene a client of rank 0, one of two ranks, gives what is written beside each line.
+fn play(rt: &impl Abort, alloc: Global, scenes: &[Scene]) -> Result<(), Fail> {
+    for (shows, servers, lines) in scenes {
+        let config = Config::new(2, *servers, 64)?;
+        play_one(rt, alloc, config, shows, lines)?;
     }
+    Ok(())
 }
 
-// A client of rank 0, one of two ranks, with this many servers gives what is written beside each line.
-fn play(rt: &impl Abort, alloc: Global, servers: u32, scene: &[(Line, &str)]) -> Result<(), Fail> {
-    let config = Config::new(2, servers, 64)?;
-    let mut driven = Driven {
-        client: ClientCore::new(alloc, config, Rank(0))?,
-        step: ClientStep::new(alloc)?,
-        told: Told::nothing(),
-    };
-    go_through(rt, alloc, &mut driven, scene)
+fn play_one(
+    rt: &impl Abort,
+    alloc: Global,
+    config: Config,
+    shows: &str,
+    lines: &[(Line, &str)],
+) -> Result<(), Fail> {
+    let mut client = ClientCore::new(alloc, config, Rank(0))?;
+    with_step(rt, alloc, &mut client, shows, lines)
+}
+
+// The client makes its steps here. (By itself, so that what the client owns is not seen with what the step does.)
+fn with_step(
+    rt: &impl Abort,
+    alloc: Global,
+    client: &mut ClientCore,
+    shows: &str,
+    lines: &[(Line, &str)],
+) -> Result<(), Fail> {
+    let mut step = ClientStep::new(alloc)?;
+    go_through(rt, alloc, client, &mut step, shows, lines)
 }
 
 // The client gives what is written beside each line.
 fn go_through(
     rt: &impl Abort,
     alloc: Global,
-    driven: &mut Driven,
-    scene: &[(Line, &str)],
+    client: &mut ClientCore,
+    step: &mut ClientStep,
+    shows: &str,
+    lines: &[(Line, &str)],
 ) -> Result<(), Fail> {
-    for (line, expected) in scene {
-        let given = driven.shown(alloc, *line)?;
-        same(rt, given.as_str(), expected);
+    let mut told = Told {
+        begun: None,
+        answered: 0,
+    };
+    for (line, expected) in lines {
+        let mut given = String::new(alloc);
+        add_line(alloc, client, step, &mut told, *line, &mut given)?;
+        same(rt, shows, given.as_str(), expected);
     }
     Ok(())
 }
 
-#[test]
-fn a_put_is_accepted_by_its_targets_home(rt: HostRuntime) -> Result<(), Fail> {
-    const SCENE: &[(Line, &str)] = &[
-        (
-            Line::Begins(Makes::Put(Target::Only(Rank(1)))),
-            "1 to 1 putting 0",
-        ),
-        (Line::IsReady(Makes::Reserve), "no"),
-        (Line::Hears(1, 2, Says::Accepted(0)), "3 Fine"),
-        (Line::Answered, "1"),
-    ];
-    play(&rt, rt.alloc(), 2, SCENE)
-}
+const LAST: u64 = (1 << 48) - 1;
+
+const CALLS: &[Scene] = &[
+    (
+        "a put is accepted by its target's home",
+        2,
+        &[
+            (
+                Line::Begins(Makes::Put(Target::Only(Rank(1)))),
+                "1 to 1 putting 0",
+            ),
+            (Line::IsReady(Makes::Reserve), "no"),
+            (Line::Hears(1, 2, Says::Accepted(0)), "3 Fine"),
+            (Line::Answered, "1"),
+        ],
+    ),
+    (
+        "a put is rejected after each server refused",
+        2,
+        &[
+            (Line::Begins(Makes::Put(Target::Any)), "1 to 0 putting 0"),
+            (Line::Hears(0, 2, Says::Full(0, 64)), "3 to 1"),
+            (
+                Line::Hears(1, 4, Says::Full(0, 61)),
+                "5 rejected 0 Rejected",
+            ),
+            // The next put begins one server further on.
+            (Line::Begins(Makes::Put(Target::Any)), "6 to 1 putting 1"),
+            (Line::Hears(1, 7, Says::Accepted(1)), "8 Fine"),
+            (Line::IsReady(Makes::Reserve), "yes"),
+        ],
+    ),
+    (
+        "a reserved unit is fetched",
+        1,
+        &[
+            (Line::IsReady(Makes::Fetch(7)), "no"),
+            (Line::Begins(Makes::Reserve), "1 to 0 asked 0"),
+            (Line::Hears(0, 2, Says::Grant(0, 7, 0)), GRANTED),
+            (Line::Begins(Makes::Fetch(7)), "4 to 0 fetching 1"),
+            (Line::Hears(0, 5, Says::Bytes(1, b"unit")), "6 bytes |unit"),
+            (Line::IsReady(Makes::Fetch(7)), "no"),
+            (Line::Begins(Makes::Finish), "7 to 0 finished 2 Fine"),
+            (Line::IsReady(Makes::Reserve), "no"),
+            (Line::Answered, "3"),
+        ],
+    ),
+    (
+        "a reserve is granted a unit of another server by the home",
+        2,
+        &[
+            (Line::Begins(Makes::Reserve), "1 to 0 asked 0"),
+            (Line::Expects(1, 1, Says::Grant(0, 7, 1)), "no"),
+            (Line::Hears(0, 2, Says::Grant(0, 7, 1)), RESERVED_ELSEWHERE),
+            (Line::Begins(Makes::Fetch(7)), "4 to 1 fetching 1"),
+        ],
+    ),
+    (
+        "an end is told again without a letter",
+        1,
+        &[
+            (Line::Begins(Makes::Reserve), "1 to 0 asked 0"),
+            (
+                Line::Hears(0, 2, Says::Ended(0, End::Exhausted)),
+                "3 Ended(Exhausted)",
+            ),
+            (
+                Line::Begins(Makes::Put(Target::Any)),
+                "4 putting 1 over 1 Ended(Exhausted)",
+            ),
+        ],
+    ),
+];
 
 #[test]
-fn a_put_is_rejected_after_each_server_refused(rt: HostRuntime) -> Result<(), Fail> {
-    const SCENE: &[(Line, &str)] = &[
-        (Line::Begins(Makes::Put(Target::Any)), "1 to 0 putting 0"),
-        (Line::Hears(0, 2, Says::Full(0, 64)), "3 to 1"),
-        (
-            Line::Hears(1, 4, Says::Full(0, 61)),
-            "5 rejected 0 Rejected",
-        ),
-        // The next put begins one server further on.
-        (Line::Begins(Makes::Put(Target::Any)), "6 to 1 putting 1"),
-        (Line::Hears(1, 7, Says::Accepted(1)), "8 Fine"),
-        (Line::IsReady(Makes::Reserve), "yes"),
-    ];
-    play(&rt, rt.alloc(), 2, SCENE)
+fn calls_are_answered(rt: HostRuntime) -> Result<(), Fail> {
+    play(&rt, rt.alloc(), CALLS)
 }
 
-#[test]
-fn a_reserved_unit_is_fetched(rt: HostRuntime) -> Result<(), Fail> {
-    const SCENE: &[(Line, &str)] = &[
-        (Line::IsReady(Makes::Fetch(7)), "no"),
-        (Line::Begins(Makes::Reserve), "1 to 0 asked 0"),
-        (Line::Hears(0, 2, Says::Grant(0, 7, 0)), GRANTED),
-        (Line::Begins(Makes::Fetch(7)), "4 to 0 fetching 1"),
-        (Line::Hears(0, 5, Says::Bytes(1, b"unit")), "6 bytes |unit"),
-        (Line::IsReady(Makes::Fetch(7)), "no"),
-        (Line::Begins(Makes::Finish), "7 to 0 finished 2 Fine"),
-        (Line::IsReady(Makes::Reserve), "no"),
-        (Line::Answered, "3"),
-    ];
-    play(&rt, rt.alloc(), 1, SCENE)
-}
+const AWAITED: &[Scene] = &[
+    (
+        "a put awaits the server that was asked",
+        2,
+        &[
+            (Line::Expects(1, 1, Says::Accepted(0)), "no"),
+            (
+                Line::Begins(Makes::Put(Target::Only(Rank(1)))),
+                "1 to 1 putting 0",
+            ),
+            (Line::Expects(1, 1, Says::Accepted(0)), "yes"),
+            (Line::Expects(1, LAST, Says::Accepted(0)), "yes"),
+            (Line::Expects(0, 1, Says::Accepted(0)), "no"),
+            (Line::Expects(1, 1, Says::Accepted(1)), "no"),
+            (Line::Expects(1, LAST + 1, Says::Accepted(0)), "no"),
+        ],
+    ),
+    (
+        "a put awaits its answers",
+        2,
+        &[
+            (
+                Line::Begins(Makes::Put(Target::Only(Rank(1)))),
+                "1 to 1 putting 0",
+            ),
+            (Line::Expects(1, 1, Says::Full(0, 64)), "yes"),
+            (Line::Expects(1, 1, Says::Ended(0, End::Exhausted)), "yes"),
+            (Line::Expects(1, 1, Says::Nothing(0)), "no"),
+            (Line::Expects(1, 1, Says::Grant(0, 0, 1)), "no"),
+            (Line::Expects(1, 1, Says::Finish), "no"),
+        ],
+    ),
+    (
+        "a reserve awaits its answers",
+        1,
+        &[
+            (Line::Begins(Makes::Reserve), "1 to 0 asked 0"),
+            (Line::Expects(0, 1, Says::Grant(0, 7, 0)), "yes"),
+            (Line::Expects(0, 1, Says::Grant(1, 7, 0)), "no"),
+            (Line::Expects(0, 1, Says::Grant(0, 7, 1)), "no"),
+            (Line::Expects(0, 1, Says::GrantInBatch(0, 0)), "yes"),
+            (Line::Expects(0, 1, Says::GrantInBatch(0, 1)), "no"),
+            (Line::Expects(0, 1, Says::Ended(0, End::NoMoreWork)), "yes"),
+            (Line::Expects(0, 1, Says::Accepted(0)), "no"),
+        ],
+    ),
+    (
+        "a fetch awaits as many bytes as its note says",
+        1,
+        &[
+            (Line::Begins(Makes::Reserve), "1 to 0 asked 0"),
+            (Line::Hears(0, 2, Says::Grant(0, 7, 0)), GRANTED),
+            (Line::Begins(Makes::Fetch(7)), "4 to 0 fetching 1"),
+            (Line::Expects(0, 1, Says::Bytes(1, b"unit")), "yes"),
+            (Line::Expects(0, 1, Says::Bytes(1, b"uni")), "no"),
+        ],
+    ),
+    (
+        "a unit that was fetched is not granted again",
+        1,
+        &[
+            (Line::Begins(Makes::Reserve), "1 to 0 asked 0"),
+            (Line::Hears(0, 2, Says::Grant(0, 7, 0)), GRANTED),
+            (Line::Begins(Makes::Fetch(7)), "4 to 0 fetching 1"),
+            (Line::Hears(0, 5, Says::Bytes(1, b"unit")), "6 bytes |unit"),
+            (Line::Begins(Makes::Reserve), "7 to 0 asked 2"),
+            (Line::Expects(0, 1, Says::Grant(2, 7, 0)), "no"),
+            (Line::Expects(0, 1, Says::Grant(2, 8, 0)), "yes"),
+        ],
+    ),
+];
 
 #[test]
-fn a_reserve_is_granted_a_unit_of_another_server_by_the_home(rt: HostRuntime) -> Result<(), Fail> {
-    const SCENE: &[(Line, &str)] = &[
-        (Line::Begins(Makes::Reserve), "1 to 0 asked 0"),
-        (Line::Expects(1, 1, Says::Grant(0, 7, 1)), "no"),
-        (Line::Hears(0, 2, Says::Grant(0, 7, 1)), RESERVED_ELSEWHERE),
-        (Line::Begins(Makes::Fetch(7)), "4 to 1 fetching 1"),
-    ];
-    play(&rt, rt.alloc(), 2, SCENE)
+fn answers_are_awaited(rt: HostRuntime) -> Result<(), Fail> {
+    play(&rt, rt.alloc(), AWAITED)
 }
 
-#[test]
-fn an_end_is_told_again_without_a_letter(rt: HostRuntime) -> Result<(), Fail> {
-    const SCENE: &[(Line, &str)] = &[
-        (Line::Begins(Makes::Reserve), "1 to 0 asked 0"),
-        (
-            Line::Hears(0, 2, Says::Ended(0, End::Exhausted)),
-            "3 Ended(Exhausted)",
-        ),
-        (
-            Line::Begins(Makes::Put(Target::Any)),
-            "4 putting 1 over 1 Ended(Exhausted)",
-        ),
-    ];
-    play(&rt, rt.alloc(), 1, SCENE)
-}
+const ROUNDS: &[Scene] = &[
+    (
+        "a batch is kept by one server until it ends",
+        2,
+        &[
+            (Line::IsReady(Makes::EndBatch), "no"),
+            (Line::Begins(Makes::BeginBatch), "1 to 0 keeping 0"),
+            (Line::Hears(0, 2, Says::Full(0, 64)), "3 to 1"),
+            (Line::Hears(1, 4, Says::Accepted(0)), "5 Fine"),
+            (Line::IsReady(Makes::BeginBatch), "no"),
+            (Line::IsReady(Makes::Finish), "no"),
+            (
+                Line::Begins(Makes::Put(Target::Only(Rank(0)))),
+                "6 to 0 in batch 0 at 1 putting 1",
+            ),
+            (Line::Hears(0, 7, Says::Accepted(1)), "8 Fine"),
+            (Line::Begins(Makes::EndBatch), "9 to 1 after 1 closing 2"),
+            (Line::Expects(0, 1, Says::Closed(2)), "no"),
+            (Line::Hears(1, 10, Says::Closed(2)), "11 Fine"),
+            (
+                Line::Begins(Makes::Put(Target::Only(Rank(0)))),
+                "12 to 0 putting 3",
+            ),
+        ],
+    ),
+    (
+        "the common bytes stand before the unit's own",
+        1,
+        &[
+            (Line::Begins(Makes::Reserve), "1 to 0 asked 0"),
+            (
+                Line::Hears(0, 2, Says::GrantInBatch(0, 0)),
+                GRANTED_IN_BATCH,
+            ),
+            (Line::Begins(Makes::Fetch(0)), "4 to 0 fetching 1"),
+            (Line::Hears(0, 5, Says::Bytes(1, b"unit")), "6 to 0"),
+            (Line::Expects(0, 1, Says::Bytes(1, b"par")), "no"),
+            (
+                Line::Hears(0, 7, Says::Bytes(1, b"part")),
+                "8 bytes part|unit",
+            ),
+        ],
+    ),
+    (
+        "a try goes round the servers",
+        3,
+        &[
+            (Line::Begins(Makes::Try), "1 to 0 tried 0"),
+            (Line::IsReady(Makes::Try), "no"),
+            (Line::Hears(0, 2, Says::Nothing(0)), "3 to 1"),
+            (Line::Expects(0, 1, Says::Nothing(0)), "no"),
+            (Line::Hears(1, 4, Says::Nothing(0)), "5 to 2"),
+            (
+                Line::Hears(2, 6, Says::Nothing(0)),
+                "7 no current 0 NoCurrent",
+            ),
+            (Line::Answered, "1"),
+            // The next try begins at the home again.
+            (Line::Begins(Makes::Try), "8 to 0 tried 1"),
+        ],
+    ),
+    (
+        "a try is granted a unit of the second server",
+        2,
+        &[
+            (Line::Begins(Makes::Try), "1 to 0 tried 0"),
+            (Line::Hears(0, 2, Says::Nothing(0)), "3 to 1"),
+            (Line::Hears(1, 4, Says::Grant(0, 7, 1)), GRANTED_ELSEWHERE),
+            (Line::Begins(Makes::Fetch(7)), "6 to 1 fetching 1"),
+        ],
+    ),
+    (
+        "a try awaits its answers",
+        2,
+        &[
+            (Line::Begins(Makes::Try), "1 to 0 tried 0"),
+            (Line::Expects(0, 1, Says::Nothing(0)), "yes"),
+            (Line::Expects(0, 1, Says::Nothing(1)), "no"),
+            (Line::Expects(1, 1, Says::Nothing(0)), "no"),
+            (Line::Expects(0, 1, Says::Grant(0, 7, 0)), "yes"),
+            (Line::Expects(1, 1, Says::Grant(0, 7, 0)), "no"),
+            (Line::Expects(0, 1, Says::Grant(0, 7, 2)), "no"),
+            (Line::Expects(0, 1, Says::Ended(0, End::NoMoreWork)), "yes"),
+            (Line::Expects(0, 1, Says::Full(0, 64)), "no"),
+        ],
+    ),
+    (
+        "after an end a try is told it again",
+        2,
+        &[
+            (Line::Begins(Makes::Try), "1 to 0 tried 0"),
+            (
+                Line::Hears(0, 2, Says::Ended(0, End::NoMoreWork)),
+                "3 Ended(NoMoreWork)",
+            ),
+            (
+                Line::Begins(Makes::Try),
+                "4 tried 1 over 1 Ended(NoMoreWork)",
+            ),
+        ],
+    ),
+];
 
 #[test]
-fn a_put_awaits_the_server_that_was_asked(rt: HostRuntime) -> Result<(), Fail> {
-    const LAST: u64 = (1 << 48) - 1;
-    const SCENE: &[(Line, &str)] = &[
-        (Line::Expects(1, 1, Says::Accepted(0)), "no"),
-        (
-            Line::Begins(Makes::Put(Target::Only(Rank(1)))),
-            "1 to 1 putting 0",
-        ),
-        (Line::Expects(1, 1, Says::Accepted(0)), "yes"),
-        (Line::Expects(1, LAST, Says::Accepted(0)), "yes"),
-        (Line::Expects(0, 1, Says::Accepted(0)), "no"),
-        (Line::Expects(1, 1, Says::Accepted(1)), "no"),
-        (Line::Expects(1, LAST + 1, Says::Accepted(0)), "no"),
-    ];
-    play(&rt, rt.alloc(), 2, SCENE)
+fn batches_and_tries(rt: HostRuntime) -> Result<(), Fail> {
+    play(&rt, rt.alloc(), ROUNDS)
 }
 
-#[test]
-fn a_put_awaits_its_answers(rt: HostRuntime) -> Result<(), Fail> {
-    const SCENE: &[(Line, &str)] = &[
-        (
-            Line::Begins(Makes::Put(Target::Only(Rank(1)))),
-            "1 to 1 putting 0",
-        ),
-        (Line::Expects(1, 1, Says::Full(0, 64)), "yes"),
-        (Line::Expects(1, 1, Says::Ended(0, End::Exhausted)), "yes"),
-        (Line::Expects(1, 1, Says::Nothing(0)), "no"),
-        (Line::Expects(1, 1, Says::Grant(0, 0, 1)), "no"),
-        (Line::Expects(1, 1, Says::Finish), "no"),
-    ];
-    play(&rt, rt.alloc(), 2, SCENE)
-}
+const ENDS: &[Scene] = &[
+    (
+        "a count is told by the home",
+        2,
+        &[
+            (Line::Begins(Makes::Count), "1 to 0 counting 0"),
+            (Line::IsReady(Makes::Count), "no"),
+            (Line::Expects(1, 1, Says::Counted(0, 2)), "no"),
+            (Line::Expects(0, 1, Says::Counted(1, 2)), "no"),
+            (Line::Expects(0, 1, Says::Nothing(0)), "no"),
+            (
+                Line::Hears(0, 2, Says::Counted(0, 2)),
+                "3 Info(Info { free: 2, top: Some(7), at_top: 1 })",
+            ),
+            (Line::Answered, "1"),
+        ],
+    ),
+    (
+        "after an end the home is asked for a count",
+        1,
+        &[
+            (Line::Begins(Makes::Reserve), "1 to 0 asked 0"),
+            (
+                Line::Hears(0, 2, Says::Ended(0, End::Exhausted)),
+                "3 Ended(Exhausted)",
+            ),
+            (Line::Begins(Makes::Count), "4 to 0 counting 1"),
+        ],
+    ),
+    (
+        "each server hears that the problem is done",
+        2,
+        &[
+            (Line::Begins(Makes::SetDone), "1 to 0 with Done 0 done 0"),
+            (Line::IsReady(Makes::Finish), "no"),
+            (Line::Expects(1, 1, Says::DoneHeard(0)), "no"),
+            (Line::Expects(0, 1, Says::DoneHeard(1)), "no"),
+            (Line::Expects(0, 1, Says::Ended(0, End::NoMoreWork)), "no"),
+            (Line::Hears(0, 2, Says::DoneHeard(0)), "3 to 1 with Done 0"),
+            (Line::Answered, "0"),
+            (Line::Expects(0, 1, Says::DoneHeard(0)), "no"),
+            (Line::Hears(1, 4, Says::DoneHeard(0)), "5 Fine"),
+            (Line::SaidLast, "SetDone Fine"),
+            (Line::Answered, "1"),
+            (Line::IsReady(Makes::Finish), "yes"),
+        ],
+    ),
+    (
+        "after an end each server still hears that the problem is done",
+        2,
+        &[
+            (Line::Begins(Makes::Reserve), "1 to 0 asked 0"),
+            (
+                Line::Hears(0, 2, Says::Ended(0, End::NoMoreWork)),
+                "3 Ended(NoMoreWork)",
+            ),
+            (Line::Begins(Makes::SetDone), "4 to 0 with Done 1 done 1"),
+            (Line::Hears(0, 5, Says::DoneHeard(1)), "6 to 1 with Done 1"),
+            (Line::Hears(1, 7, Says::DoneHeard(1)), "8 Fine"),
+            (Line::SaidLast, "SetDone Fine"),
+        ],
+    ),
+];
 
 #[test]
-fn a_reserve_awaits_its_answers(rt: HostRuntime) -> Result<(), Fail> {
-    const SCENE: &[(Line, &str)] = &[
-        (Line::Begins(Makes::Reserve), "1 to 0 asked 0"),
-        (Line::Expects(0, 1, Says::Grant(0, 7, 0)), "yes"),
-        (Line::Expects(0, 1, Says::Grant(1, 7, 0)), "no"),
-        (Line::Expects(0, 1, Says::Grant(0, 7, 1)), "no"),
-        (Line::Expects(0, 1, Says::GrantInBatch(0, 0)), "yes"),
-        (Line::Expects(0, 1, Says::GrantInBatch(0, 1)), "no"),
-        (Line::Expects(0, 1, Says::Ended(0, End::NoMoreWork)), "yes"),
-        (Line::Expects(0, 1, Says::Accepted(0)), "no"),
-    ];
-    play(&rt, rt.alloc(), 1, SCENE)
-}
-
-#[test]
-fn a_fetch_awaits_as_many_bytes_as_its_note_says(rt: HostRuntime) -> Result<(), Fail> {
-    const SCENE: &[(Line, &str)] = &[
-        (Line::Begins(Makes::Reserve), "1 to 0 asked 0"),
-        (Line::Hears(0, 2, Says::Grant(0, 7, 0)), GRANTED),
-        (Line::Begins(Makes::Fetch(7)), "4 to 0 fetching 1"),
-        (Line::Expects(0, 1, Says::Bytes(1, b"unit")), "yes"),
-        (Line::Expects(0, 1, Says::Bytes(1, b"uni")), "no"),
-    ];
-    play(&rt, rt.alloc(), 1, SCENE)
-}
-
-#[test]
-fn a_unit_that_was_fetched_is_not_granted_again(rt: HostRuntime) -> Result<(), Fail> {
-    const SCENE: &[(Line, &str)] = &[
-        (Line::Begins(Makes::Reserve), "1 to 0 asked 0"),
-        (Line::Hears(0, 2, Says::Grant(0, 7, 0)), GRANTED),
-        (Line::Begins(Makes::Fetch(7)), "4 to 0 fetching 1"),
-        (Line::Hears(0, 5, Says::Bytes(1, b"unit")), "6 bytes |unit"),
-        (Line::Begins(Makes::Reserve), "7 to 0 asked 2"),
-        (Line::Expects(0, 1, Says::Grant(2, 7, 0)), "no"),
-        (Line::Expects(0, 1, Says::Grant(2, 8, 0)), "yes"),
-    ];
-    play(&rt, rt.alloc(), 1, SCENE)
-}
-
-#[test]
-fn a_batch_is_kept_by_one_server_until_it_ends(rt: HostRuntime) -> Result<(), Fail> {
-    const SCENE: &[(Line, &str)] = &[
-        (Line::IsReady(Makes::EndBatch), "no"),
-        (Line::Begins(Makes::BeginBatch), "1 to 0 keeping 0"),
-        (Line::Hears(0, 2, Says::Full(0, 64)), "3 to 1"),
-        (Line::Hears(1, 4, Says::Accepted(0)), "5 Fine"),
-        (Line::IsReady(Makes::BeginBatch), "no"),
-        (Line::IsReady(Makes::Finish), "no"),
-        (
-            Line::Begins(Makes::Put(Target::Only(Rank(0)))),
-            "6 to 0 in batch 0 at 1 putting 1",
-        ),
-        (Line::Hears(0, 7, Says::Accepted(1)), "8 Fine"),
-        (Line::Begins(Makes::EndBatch), "9 to 1 after 1 closing 2"),
-        (Line::Expects(0, 1, Says::Closed(2)), "no"),
-        (Line::Hears(1, 10, Says::Closed(2)), "11 Fine"),
-        (
-            Line::Begins(Makes::Put(Target::Only(Rank(0)))),
-            "12 to 0 putting 3",
-        ),
-    ];
-    play(&rt, rt.alloc(), 2, SCENE)
-}
-
-#[test]
-fn the_common_bytes_stand_before_the_units_own(rt: HostRuntime) -> Result<(), Fail> {
-    const SCENE: &[(Line, &str)] = &[
-        (Line::Begins(Makes::Reserve), "1 to 0 asked 0"),
-        (
-            Line::Hears(0, 2, Says::GrantInBatch(0, 0)),
-            GRANTED_IN_BATCH,
-        ),
-        (Line::Begins(Makes::Fetch(0)), "4 to 0 fetching 1"),
-        (Line::Hears(0, 5, Says::Bytes(1, b"unit")), "6 to 0"),
-        (Line::Expects(0, 1, Says::Bytes(1, b"par")), "no"),
-        (
-            Line::Hears(0, 7, Says::Bytes(1, b"part")),
-            "8 bytes part|unit",
-        ),
-    ];
-    play(&rt, rt.alloc(), 1, SCENE)
-}
-
-#[test]
-fn a_try_goes_round_the_servers(rt: HostRuntime) -> Result<(), Fail> {
-    const SCENE: &[(Line, &str)] = &[
-        (Line::Begins(Makes::Try), "1 to 0 tried 0"),
-        (Line::IsReady(Makes::Try), "no"),
-        (Line::Hears(0, 2, Says::Nothing(0)), "3 to 1"),
-        (Line::Expects(0, 1, Says::Nothing(0)), "no"),
-        (Line::Hears(1, 4, Says::Nothing(0)), "5 to 2"),
-        (
-            Line::Hears(2, 6, Says::Nothing(0)),
-            "7 no current 0 NoCurrent",
-        ),
-        (Line::Answered, "1"),
-        // The next try begins at the home again.
-        (Line::Begins(Makes::Try), "8 to 0 tried 1"),
-    ];
-    play(&rt, rt.alloc(), 3, SCENE)
-}
-
-#[test]
-fn a_try_is_granted_a_unit_of_the_second_server(rt: HostRuntime) -> Result<(), Fail> {
-    const SCENE: &[(Line, &str)] = &[
-        (Line::Begins(Makes::Try), "1 to 0 tried 0"),
-        (Line::Hears(0, 2, Says::Nothing(0)), "3 to 1"),
-        (Line::Hears(1, 4, Says::Grant(0, 7, 1)), GRANTED_ELSEWHERE),
-        (Line::Begins(Makes::Fetch(7)), "6 to 1 fetching 1"),
-    ];
-    play(&rt, rt.alloc(), 2, SCENE)
-}
-
-#[test]
-fn a_try_awaits_its_answers(rt: HostRuntime) -> Result<(), Fail> {
-    const SCENE: &[(Line, &str)] = &[
-        (Line::Begins(Makes::Try), "1 to 0 tried 0"),
-        (Line::Expects(0, 1, Says::Nothing(0)), "yes"),
-        (Line::Expects(0, 1, Says::Nothing(1)), "no"),
-        (Line::Expects(1, 1, Says::Nothing(0)), "no"),
-        (Line::Expects(0, 1, Says::Grant(0, 7, 0)), "yes"),
-        (Line::Expects(1, 1, Says::Grant(0, 7, 0)), "no"),
-        (Line::Expects(0, 1, Says::Grant(0, 7, 2)), "no"),
-        (Line::Expects(0, 1, Says::Ended(0, End::NoMoreWork)), "yes"),
-        (Line::Expects(0, 1, Says::Full(0, 64)), "no"),
-    ];
-    play(&rt, rt.alloc(), 2, SCENE)
-}
-
-#[test]
-fn after_an_end_a_try_is_told_it_again(rt: HostRuntime) -> Result<(), Fail> {
-    const SCENE: &[(Line, &str)] = &[
-        (Line::Begins(Makes::Try), "1 to 0 tried 0"),
-        (
-            Line::Hears(0, 2, Says::Ended(0, End::NoMoreWork)),
-            "3 Ended(NoMoreWork)",
-        ),
-        (
-            Line::Begins(Makes::Try),
-            "4 tried 1 over 1 Ended(NoMoreWork)",
-        ),
-    ];
-    play(&rt, rt.alloc(), 2, SCENE)
-}
-
-#[test]
-fn a_count_is_told_by_the_home(rt: HostRuntime) -> Result<(), Fail> {
-    const SCENE: &[(Line, &str)] = &[
-        (Line::Begins(Makes::Count), "1 to 0 counting 0"),
-        (Line::IsReady(Makes::Count), "no"),
-        (Line::Expects(1, 1, Says::Counted(0, 2)), "no"),
-        (Line::Expects(0, 1, Says::Counted(1, 2)), "no"),
-        (Line::Expects(0, 1, Says::Nothing(0)), "no"),
-        (
-            Line::Hears(0, 2, Says::Counted(0, 2)),
-            "3 Info(Info { free: 2, top: Some(7), at_top: 1 })",
-        ),
-        (Line::Answered, "1"),
-    ];
-    play(&rt, rt.alloc(), 2, SCENE)
-}
-
-#[test]
-fn after_an_end_the_home_is_asked_for_a_count(rt: HostRuntime) -> Result<(), Fail> {
-    const SCENE: &[(Line, &str)] = &[
-        (Line::Begins(Makes::Reserve), "1 to 0 asked 0"),
-        (
-            Line::Hears(0, 2, Says::Ended(0, End::Exhausted)),
-            "3 Ended(Exhausted)",
-        ),
-        (Line::Begins(Makes::Count), "4 to 0 counting 1"),
-    ];
-    play(&rt, rt.alloc(), 1, SCENE)
-}
-
-#[test]
-fn each_server_hears_that_the_problem_is_done(rt: HostRuntime) -> Result<(), Fail> {
-    const SCENE: &[(Line, &str)] = &[
-        (Line::Begins(Makes::SetDone), "1 to 0 with Done 0 done 0"),
-        (Line::IsReady(Makes::Finish), "no"),
-        (Line::Expects(1, 1, Says::DoneHeard(0)), "no"),
-        (Line::Expects(0, 1, Says::DoneHeard(1)), "no"),
-        (Line::Expects(0, 1, Says::Ended(0, End::NoMoreWork)), "no"),
-        (Line::Hears(0, 2, Says::DoneHeard(0)), "3 to 1 with Done 0"),
-        (Line::Answered, "0"),
-        (Line::Expects(0, 1, Says::DoneHeard(0)), "no"),
-        (Line::Hears(1, 4, Says::DoneHeard(0)), "5 Fine"),
-        (Line::SaidLast, "SetDone Fine"),
-        (Line::Answered, "1"),
-        (Line::IsReady(Makes::Finish), "yes"),
-    ];
-    play(&rt, rt.alloc(), 2, SCENE)
-}
-
-#[test]
-fn after_an_end_each_server_still_hears_that_the_problem_is_done(
-    rt: HostRuntime,
-) -> Result<(), Fail> {
-    const SCENE: &[(Line, &str)] = &[
-        (Line::Begins(Makes::Reserve), "1 to 0 asked 0"),
-        (
-            Line::Hears(0, 2, Says::Ended(0, End::NoMoreWork)),
-            "3 Ended(NoMoreWork)",
-        ),
-        (Line::Begins(Makes::SetDone), "4 to 0 with Done 1 done 1"),
-        (Line::Hears(0, 5, Says::DoneHeard(1)), "6 to 1 with Done 1"),
-        (Line::Hears(1, 7, Says::DoneHeard(1)), "8 Fine"),
-        (Line::SaidLast, "SetDone Fine"),
-    ];
-    play(&rt, rt.alloc(), 2, SCENE)
+fn counts_and_ends(rt: HostRuntime) -> Result<(), Fail> {
+    play(&rt, rt.alloc(), ENDS)
 }

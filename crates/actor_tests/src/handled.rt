@@ -7,7 +7,7 @@ use adlb_unit::{
     Actor, AskedList, BatchId, Config, Letter, Message, Payload, Rank, Sending, Server, Target,
     Token, Trouble, Types, Unit, UnitId, UnitNote, Why, WorkType,
 };
-use server_core::{LeftUnit, ServerState, Spare, Step};
+use server_core::{ServerState, Spare, Step};
 use std::alloc::Global;
 use std::fmt::Write;
 use std::process::Abort;
@@ -276,84 +276,59 @@ fn expects(
     stamp: u64,
     says: Says,
 ) -> Result<bool, Fail> {
-    let letter = letter(alloc, stamp, says)?;
-    Ok(server.expects(from, &letter))
+    Ok(server.expects(from, &letter(alloc, stamp, says)?))
+}
+
+// How the letters of a step are shown.
+#[derive(Clone, Copy)]
+enum Letters {
+    InFull,
+    InShort,
+    Unseen,
 }
 
 // The server, which is not broken, handles a letter that it expects: its step, or its trouble.
-fn step_at(
+fn add_heard(
     alloc: Global,
     server: &mut ServerState,
-    from: Actor,
-    stamp: u64,
+    (from, stamp): (Actor, u64),
     says: Says,
-) -> Result<Result<Step, Trouble>, Fail> {
-    if server.broken().is_some() {
-        return Err("broken".into());
-    }
+    letters: Letters,
+    text: &mut String,
+) -> Result<(), Fail> {
     let letter = letter(alloc, stamp, says)?;
-    if !server.expects(from, &letter) {
-        return Err("not expected".into());
+    if server.broken().is_some() || !server.expects(from, &letter) {
+        return Err("broken, or not expected".into());
     }
-    Ok(server.step(Spare::new(alloc), from, letter))
-}
-
-fn step(alloc: Global, server: &mut ServerState, from: Actor, says: Says) -> Result<Step, Fail> {
-    Ok(step_at(alloc, server, from, 0, says)??)
-}
-
-fn hears_at(
-    alloc: Global,
-    server: &mut ServerState,
-    stamp: u64,
-    says: Says,
-) -> Result<String, Fail> {
-    match step_at(alloc, server, RANK, stamp, says)? {
-        Ok(step) => step_shown(alloc, &step),
-        Err(trouble) => Ok(format!(in alloc; "{trouble:?}")?),
+    match server.step(Spare::new(alloc), from, letter) {
+        Ok(step) => add_step(text, &step, letters),
+        Err(trouble) => add_trouble(text, trouble),
     }
 }
 
-// The stamp of a step and its entries.
-fn step_shown(alloc: Global, step: &Step) -> Result<String, Fail> {
-    let stamp = step.stamp;
-    let entries = &step.entries;
-    Ok(format!(in alloc; "{stamp} {entries:?}")?)
+fn add_trouble(text: &mut String, trouble: Trouble) -> Result<(), Fail> {
+    match trouble {
+        Trouble::Memory => Err(trouble.into()),
+        Trouble::TooLong { .. } => Ok(write!(text, "{trouble:?}")?),
+    }
 }
 
-fn hears(alloc: Global, server: &mut ServerState, from: Actor, says: Says) -> Result<String, Fail> {
-    let step = step(alloc, server, from, says)?;
-    in_full(alloc, &step)
+// The stamp of a step, its letters as they are to be shown, and its entries.
+fn add_step(text: &mut String, step: &Step, letters: Letters) -> Result<(), Fail> {
+    write!(text, "{}", step.stamp)?;
+    match letters {
+        Letters::InFull => write!(text, " {:?}", step.sends)?,
+        Letters::InShort => add_letters(text, &step.sends)?,
+        Letters::Unseen => {}
+    }
+    Ok(write!(text, " {:?}", step.entries)?)
 }
 
-// The stamp of a step, its letters and its entries.
-fn in_full(alloc: Global, step: &Step) -> Result<String, Fail> {
-    let stamp = step.stamp;
-    let (sends, entries) = (&step.sends, &step.entries);
-    Ok(format!(in alloc; "{stamp} {sends:?} {entries:?}")?)
-}
-
-fn answers(
-    alloc: Global,
-    server: &mut ServerState,
-    from: Actor,
-    says: Says,
-) -> Result<String, Fail> {
-    let step = step(alloc, server, from, says)?;
-    let mut text = String::new(alloc);
-    add_step(&mut text, &step)?;
-    Ok(text)
-}
-
-// The stamp of a step, each letter in short, and its entries.
-fn add_step(text: &mut String, step: &Step) -> Result<(), Fail> {
-    let stamp = step.stamp;
-    write!(text, "{stamp}")?;
-    for sending in &step.sends {
+fn add_letters(text: &mut String, sends: &[Sending]) -> Result<(), Fail> {
+    for sending in sends {
         add_letter(text, sending)?;
     }
-    let entries = &step.entries;
-    Ok(write!(text, " {entries:?}")?)
+    Ok(())
 }
 
 // To whom a letter goes, its place, and what it says of which call.
@@ -454,49 +429,86 @@ fn reason(why: &Why) -> &'static str {
 }
 
 // What a line of a scene gives, as it is shown.
-fn shown(alloc: Global, server: &mut ServerState, line: Line) -> Result<String, Fail> {
+fn add_line(
+    alloc: Global,
+    server: &mut ServerState,
+    line: Line,
+    text: &mut String,
+) -> Result<(), Fail> {
     match line {
-        Line::Hears(rank, says) => hears(alloc, server, Actor::Rank(Rank(rank)), says),
-        Line::HearsAt(stamp, says) => hears_at(alloc, server, stamp, says),
-        Line::Answers(from, says) => answers(alloc, server, from, says),
-        Line::Expects(from, says) => yes(alloc, expects(alloc, server, from, 0, says)?),
-        Line::ExpectsAt(stamp) => yes(alloc, expects(alloc, server, RANK, stamp, Says::Finish)?),
-        Line::IsQuiet => yes(alloc, server.is_quiet()),
-        Line::HasEnded => yes(alloc, server.ended()),
-        Line::Broken => broken(alloc, server),
-        Line::Left => left(alloc, server),
+        Line::Hears(rank, says) => {
+            let from = Actor::Rank(Rank(rank));
+            add_heard(alloc, server, (from, 0), says, Letters::InFull, text)
+        }
+        Line::HearsAt(stamp, says) => {
+            add_heard(alloc, server, (RANK, stamp), says, Letters::Unseen, text)
+        }
+        Line::Answers(from, says) => {
+            add_heard(alloc, server, (from, 0), says, Letters::InShort, text)
+        }
+        line => add_told(alloc, server, line, text),
     }
 }
 
-fn left(alloc: Global, server: &ServerState) -> Result<String, Fail> {
+// What the server tells of itself.
+fn add_told(
+    alloc: Global,
+    server: &ServerState,
+    line: Line,
+    text: &mut String,
+) -> Result<(), Fail> {
+    match line {
+        Line::Expects(from, says) => add_yes(text, expects(alloc, server, from, 0, says)?),
+        Line::ExpectsAt(stamp) => add_yes(text, expects(alloc, server, RANK, stamp, Says::Finish)?),
+        Line::IsQuiet => add_yes(text, server.is_quiet()),
+        Line::HasEnded => add_yes(text, server.ended()),
+        Line::Broken => Ok(write!(text, "{:?}", server.broken())?),
+        Line::Left => add_left(text, server),
+        _ => Ok(()),
+    }
+}
+
+fn add_left(text: &mut String, server: &ServerState) -> Result<(), Fail> {
     let left = server.left()?;
-    Ok(format!(in alloc; "{left:?}")?)
+    Ok(write!(text, "{left:?}")?)
 }
 
-fn broken(alloc: Global, server: &ServerState) -> Result<String, Fail> {
-    let broken = server.broken();
-    Ok(format!(in alloc; "{broken:?}")?)
+fn add_yes(text: &mut String, holds: bool) -> Result<(), Fail> {
+    Ok(text.push_str(if holds { "yes" } else { "no" })?)
 }
 
-fn yes(alloc: Global, holds: bool) -> Result<String, Fail> {
-    Ok(String::from_str(alloc, if holds { "yes" } else { "no" })?)
+/// What it shows; the numbers of ranks and servers of the run, and which server it is; and the lines, each with what it
+/// gives.
+pub(crate) type Scene = (
+    &'static str,
+    (u32, u32, u32),
+    &'static [(Line, &'static str)],
+);
+
+/// In each scene a server with the lowest limit gives what is written beside each line.
+pub(crate) fn play(rt: &impl Abort, alloc: Global, scenes: &[Scene]) -> Result<(), Fail> {
+    for (shows, (ranks, servers, me), lines) in scenes {
+        if *me >= *servers {
+            return Err("no such server".into());
+        }
+        let config = Config::new(*ranks, *servers, 64)?;
+        play_one(rt, alloc, config, *me, shows, lines)?;
+    }
+    Ok(())
 }
 
-// A server of a run with `ranks` ranks and `servers` servers, and with the lowest limit, gives what is written beside
-// each line.
-pub(crate) fn play(
+fn play_one(
     rt: &impl Abort,
     alloc: Global,
-    ranks: u32,
-    servers: u32,
+    config: Config,
     me: u32,
-    scene: &[(Line, &str)],
+    shows: &str,
+    lines: &[(Line, &str)],
 ) -> Result<(), Fail>
-    requires { me < servers }
+    requires { me < config.servers }
 {
-    let config = Config::new(ranks, servers, 64)?;
     let mut server = ServerState::new(alloc, config, Server(me))?;
-    go_through(rt, alloc, &mut server, scene)
+    go_through(rt, alloc, &mut server, shows, lines)
 }
 
 // The server gives what is written beside each line.
@@ -504,11 +516,13 @@ fn go_through(
     rt: &impl Abort,
     alloc: Global,
     server: &mut ServerState,
-    scene: &[(Line, &str)],
+    shows: &str,
+    lines: &[(Line, &str)],
 ) -> Result<(), Fail> {
-    for (line, expected) in scene {
-        let given = shown(alloc, server, *line)?;
-        same(rt, given.as_str(), expected);
+    for (line, expected) in lines {
+        let mut given = String::new(alloc);
+        add_line(alloc, server, *line, &mut given)?;
+        same(rt, shows, given.as_str(), expected);
     }
     Ok(())
 }

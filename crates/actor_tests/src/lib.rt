@@ -25,6 +25,8 @@ mod pushes;
 #[cfg(test)]
 mod queue;
 #[cfg(test)]
+mod queues;
+#[cfg(test)]
 mod serving;
 #[cfg(test)]
 mod waits;

@@ -4,18 +4,20 @@ ghost use Rattle.std.specs.Prelude.{◌≤◌, length};
 ghost use Rattle.adlb_unit.specs.Limits.{body_limit};
 ghost use Rattle.batch_store.specs.Store.{part_in, size_of};
 
-use crate::lines::same;
+use crate::lines::{same, same_charge};
 use crate::queue::say;
+use crate::queues::{Scene, Script, play};
 use adlb_unit::{BatchId, Payload, Rank};
 use batch_store::BatchStore;
 use std::alloc::Global;
+use std::fmt::Write;
 use std::process::Abort;
 use std::test::Fail;
 use work_queue::{AddFault, WorkQueue};
 
 // One step at the batch.
 #[derive(Clone, Copy)]
-enum Act {
+pub(crate) enum Act {
     // A part of `size` bytes, each this one, is kept.
     Keep(u8, u8),
     // The batch is closed, after this number of its units was accepted.
@@ -85,17 +87,17 @@ fn fetch(store: &mut BatchStore, queue: &mut WorkQueue, batch: BatchId) -> Optio
 }
 
 // Shows a fetch.
-fn shown(alloc: Global, given: &Option<(Payload, bool)>) -> Result<String, Fail> {
+fn shown(text: &mut String, given: &Option<(Payload, bool)>) -> Result<(), Fail> {
     match given {
-        Some((bytes, freed)) => fetched(alloc, bytes.bytes(), *freed),
-        None => say(alloc, "nothing"),
+        Some((bytes, freed)) => fetched(text, bytes.bytes(), *freed),
+        None => say(text, "nothing"),
     }
 }
 
 // The bytes that were fetched as text, and whether they were freed.
-fn fetched(alloc: Global, bytes: &[u8], freed: bool) -> Result<String, Fail> {
-    let text = str::from_utf8(bytes).unwrap_or("?");
-    Ok(format!(in alloc; "{text} {freed}")?)
+fn fetched(text: &mut String, bytes: &[u8], freed: bool) -> Result<(), Fail> {
+    let bytes = str::from_utf8(bytes).unwrap_or("?");
+    Ok(write!(text, "{bytes} {freed}")?)
 }
 
 // Makes a step, and shows its answer.
@@ -105,31 +107,43 @@ fn make(
     queue: &mut WorkQueue,
     batch: BatchId,
     act: Act,
-) -> Result<String, Fail>
+    text: &mut String,
+) -> Result<(), Fail>
     requires { size_of (part_in store.old batch) ≤ queue.old.common }
     ensures { size_of (part_in store.new batch) ≤ queue.new.common }
 {
     match act {
         Act::Keep(byte, size) => {
             let bytes = vec![in alloc; byte; size as usize]?;
-            let answer = keep(store, queue, batch, Payload::from_vec(bytes));
-            say(alloc, answer)
+            say(text, keep(store, queue, batch, Payload::from_vec(bytes)))
         }
-        Act::Close(accepted) => say(alloc, close(store, queue, batch, accepted)),
-        Act::Fetch => shown(alloc, &fetch(store, queue, batch)),
+        Act::Close(accepted) => say(text, close(store, queue, batch, accepted)),
+        Act::Fetch => shown(text, &fetch(store, queue, batch)),
     }
 }
 
-// A step, how it is answered, and the charge that it leaves.
-type Row = (Act, &'static str, u64);
+/// A step, how it is answered, and the charge that it leaves.
+pub(crate) type Row = (Act, &'static str, u64);
 
-// At a server with room for 64 bytes, each step is answered so, and leaves this charge.
-fn check(rt: &impl Abort, alloc: Global, rows: &[Row]) -> Result<(), Fail> {
+/// At a server with room for 64 bytes, each step is answered so, and leaves this charge.
+pub(crate) fn follow(
+    rt: &impl Abort,
+    alloc: Global,
+    queue: &mut WorkQueue,
+    shows: &str,
+    rows: &[Row],
+) -> Result<(), Fail> {
     let rank = Rank(3);
-    let batch = BatchId { rank, number: 5 };
     let mut store = BatchStore::new(alloc);
-    let mut queue = WorkQueue::new(alloc, 64);
-    go_through(rt, alloc, &mut store, &mut queue, batch, rows)
+    go_through(
+        rt,
+        alloc,
+        &mut store,
+        queue,
+        BatchId { rank, number: 5 },
+        shows,
+        rows,
+    )
 }
 
 // The steps are answered as their rows say.
@@ -139,64 +153,57 @@ fn go_through(
     store: &mut BatchStore,
     queue: &mut WorkQueue,
     batch: BatchId,
+    shows: &str,
     rows: &[Row],
 ) -> Result<(), Fail>
     requires { size_of (part_in store.old batch) ≤ queue.old.common }
 {
     for row in rows {
-        check_one(rt, alloc, store, queue, batch, *row)?;
+        let (act, expected, charge) = *row;
+        let mut given = String::new(alloc);
+        make(alloc, store, queue, batch, act, &mut given)?;
+        same(rt, shows, given.as_str(), expected);
+        same_charge(rt, shows, queue.charge(), charge);
     }
     Ok(())
 }
 
-fn check_one(
-    rt: &impl Abort,
-    alloc: Global,
-    store: &mut BatchStore,
-    queue: &mut WorkQueue,
-    batch: BatchId,
-    row: Row,
-) -> Result<(), Fail>
-    requires { size_of (part_in store.old batch) ≤ queue.old.common }
-    ensures { size_of (part_in store.new batch) ≤ queue.new.common }
-{
-    let (act, expected, charge) = row;
-    let answer = make(alloc, store, queue, batch, act)?;
-    same(rt, answer.as_str(), expected);
-    assert!(rt; queue.charge() == charge);
-    Ok(())
-}
+const SCENES: &[Scene] = &[
+    (
+        "frees after the last fetch",
+        64,
+        Script::Parts(&[
+            (Act::Keep(b'x', 3), "kept", 3),
+            (Act::Close(1), "closed", 3),
+            (Act::Fetch, "xxx true", 0),
+            (Act::Fetch, "nothing", 0),
+            (Act::Keep(b'x', 65), "full", 0),
+            (Act::Keep(b'y', 2), "kept", 2),
+            (Act::Fetch, "yy false", 2),
+            (Act::Close(2), "closed", 2),
+            (Act::Fetch, "yy true", 0),
+        ]),
+    ),
+    (
+        "frees when nothing is due at the close",
+        64,
+        Script::Parts(&[
+            (Act::Keep(b'x', 3), "kept", 3),
+            (Act::Close(0), "freed", 0),
+            (Act::Keep(b'z', 64), "kept", 64),
+            (
+                Act::Fetch,
+                "zzzzzzzzzzzzzzzzzzzzzzzzzzzzzzzzzzzzzzzzzzzzzzzzzzzzzzzzzzzzzzzz false",
+                64,
+            ),
+            (Act::Close(1), "freed", 0),
+            (Act::Keep(b'x', 0), "kept", 0),
+            (Act::Close(0), "freed", 0),
+        ]),
+    ),
+];
 
 #[test]
-fn frees_after_the_last_fetch(rt: HostRuntime) -> Result<(), Fail> {
-    const ROWS: &[Row] = &[
-        (Act::Keep(b'x', 3), "kept", 3),
-        (Act::Close(1), "closed", 3),
-        (Act::Fetch, "xxx true", 0),
-        (Act::Fetch, "nothing", 0),
-        (Act::Keep(b'x', 65), "full", 0),
-        (Act::Keep(b'y', 2), "kept", 2),
-        (Act::Fetch, "yy false", 2),
-        (Act::Close(2), "closed", 2),
-        (Act::Fetch, "yy true", 0),
-    ];
-    check(&rt, rt.alloc(), ROWS)
-}
-
-#[test]
-fn frees_when_nothing_is_due_at_the_close(rt: HostRuntime) -> Result<(), Fail> {
-    const ROWS: &[Row] = &[
-        (Act::Keep(b'x', 3), "kept", 3),
-        (Act::Close(0), "freed", 0),
-        (Act::Keep(b'z', 64), "kept", 64),
-        (
-            Act::Fetch,
-            "zzzzzzzzzzzzzzzzzzzzzzzzzzzzzzzzzzzzzzzzzzzzzzzzzzzzzzzzzzzzzzzz false",
-            64,
-        ),
-        (Act::Close(1), "freed", 0),
-        (Act::Keep(b'x', 0), "kept", 0),
-        (Act::Close(0), "freed", 0),
-    ];
-    check(&rt, rt.alloc(), ROWS)
+fn parts_go(rt: HostRuntime) -> Result<(), Fail> {
+    play(&rt, rt.alloc(), SCENES)
 }

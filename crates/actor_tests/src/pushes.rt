@@ -3,18 +3,20 @@
 ghost use Rattle.std.specs.Prelude.{◌≡◌};
 ghost use Rattle.put_path.specs.Pushes.{is_query, is_under_way};
 
-use crate::lines::same;
+use crate::lines::{same, same_charge};
 use crate::queue::{id, is_new, say};
+use crate::queues::{Scene, Script, play};
 use adlb_unit::{Config, Payload, Rank, Server, Target, Unit, UnitId, WorkType};
 use put_path::{Push, PushQuery, PushState, push_query, put};
 use std::alloc::Global;
+use std::fmt::Write;
 use std::process::Abort;
 use std::test::Fail;
 use work_queue::WorkQueue;
 
 // A call. Units are named by their numbers.
 #[derive(Clone, Copy)]
-enum Act {
+pub(crate) enum Act {
     // A put of a unit of this number, length and priority.
     Put(u64, u8, i32),
     // The unit is granted to a rank.
@@ -56,9 +58,10 @@ fn put_new(
     id: UnitId,
     size: u8,
     prio: i32,
-) -> Result<String, Fail> {
+    text: &mut String,
+) -> Result<(), Fail> {
     if !is_new(queue, id) || queue.arrivals() > 9 {
-        return say(alloc, "not so");
+        return say(text, "not so");
     }
     let body = Payload::from_vec(vec![in alloc; 7_u8; size as usize]?);
     let unit = Unit {
@@ -70,54 +73,51 @@ fn put_new(
         common: None,
         body,
     };
-    Ok(format!(in alloc; "{:?}", put(queue, unit)?)?)
+    Ok(write!(text, "{:?}", put(queue, unit)?)?)
 }
 
 // Asks for room for a unit of this id, if that is new.
-fn ask_room(alloc: Global, queue: &mut WorkQueue, id: UnitId, length: u32) -> Result<String, Fail> {
+fn ask_room(text: &mut String, queue: &mut WorkQueue, id: UnitId, length: u32) -> Result<(), Fail> {
     if !is_new(queue, id) {
-        return say(alloc, "not so");
+        return say(text, "not so");
     }
-    Ok(format!(in alloc; "{}", push_query(queue, id, length)?)?)
+    Ok(write!(text, "{}", push_query(queue, id, length)?)?)
 }
 
 // Grants the unit of this id, if it is free.
-fn pin(alloc: Global, queue: &mut WorkQueue, id: UnitId) -> Result<String, Fail> {
+fn pin(text: &mut String, queue: &mut WorkQueue, id: UnitId) -> Result<(), Fail> {
     if !queue.is_free(id) {
-        return say(alloc, "not so");
+        return say(text, "not so");
     }
     queue.pin(id, Rank(0));
-    say(alloc, "pinned")
+    say(text, "pinned")
 }
 
 // Shows the room that is asked for.
-fn asks(alloc: Global, query: Option<PushQuery>) -> Result<String, Fail> {
+fn asks(text: &mut String, query: Option<PushQuery>) -> Result<(), Fail> {
     match query {
-        Some(query) => Ok(format!(in alloc;
-            "{} {} {}",
-            query.to.0, query.id.number, query.length
-        )?),
-        None => say(alloc, "none"),
+        Some(query) => Ok(write!(text, "{} {} {}", query.to.0, query.id.number, query.length)?),
+        None => say(text, "none"),
     }
 }
 
 // Shows what is sent where there is room.
-fn goes(alloc: Global, push: &Push) -> Result<String, Fail> {
+fn goes(text: &mut String, push: &Push) -> Result<(), Fail> {
     match push {
-        Push::Go(to, unit) => sends(alloc, "go", *to, unit.id),
-        Push::Cancel(to, id) => sends(alloc, "cancel", *to, *id),
+        Push::Go(to, unit) => sends(text, "go", *to, unit.id),
+        Push::Cancel(to, id) => sends(text, "cancel", *to, *id),
     }
 }
 
-fn sends(alloc: Global, what: &str, to: Server, id: UnitId) -> Result<String, Fail> {
-    Ok(format!(in alloc; "{what} {} {}", to.0, id.number)?)
+fn sends(text: &mut String, what: &str, to: Server, id: UnitId) -> Result<(), Fail> {
+    Ok(write!(text, "{what} {} {}", to.0, id.number)?)
 }
 
 // What is told of the push that stands.
-fn tells(alloc: Global, pushes: &PushState, to: Server, id: UnitId) -> Result<String, Fail> {
+fn tells(text: &mut String, pushes: &PushState, to: Server, id: UnitId) -> Result<(), Fail> {
     let asks = pushes.asks(to, id);
     let sent = pushes.has_sent(to, id);
-    Ok(format!(in alloc; "{asks} {sent} {}", pushes.going())?)
+    Ok(write!(text, "{asks} {sent} {}", pushes.going())?)
 }
 
 // Makes the call, and shows its answer.
@@ -126,103 +126,112 @@ fn make(
     pushes: &mut PushState,
     queue: &mut WorkQueue,
     act: Act,
-) -> Result<String, Fail> {
+    text: &mut String,
+) -> Result<(), Fail> {
     match act {
-        Act::Pressure => asks(alloc, pushes.pressure(queue)),
-        Act::Yes if is_query(pushes) => goes(alloc, &pushes.push_yes(queue)),
+        Act::Pressure => asks(text, pushes.pressure(queue)),
+        Act::Yes if is_query(pushes) => goes(text, &pushes.push_yes(queue)),
         Act::No if is_query(pushes) => {
             pushes.push_no();
-            say(alloc, "ended")
+            say(text, "ended")
         }
         Act::Ack if is_under_way(pushes) => {
             pushes.push_ack();
-            say(alloc, "ended")
+            say(text, "ended")
         }
-        Act::Tells(to, number) => tells(alloc, pushes, Server(to), id(number)),
-        Act::Put(number, size, prio) => put_new(alloc, queue, id(number), size, prio),
-        Act::Query(number, length) => ask_room(alloc, queue, id(number), length),
-        Act::Pin(number) => pin(alloc, queue, id(number)),
-        _ => say(alloc, "not so"),
+        Act::Tells(to, number) => tells(text, pushes, Server(to), id(number)),
+        Act::Put(number, size, prio) => put_new(alloc, queue, id(number), size, prio, text),
+        Act::Query(number, length) => ask_room(text, queue, id(number), length),
+        Act::Pin(number) => pin(text, queue, id(number)),
+        _ => say(text, "not so"),
     }
 }
 
-// At server 2 of three, each call is answered so, and at the end the queue has this charge.
-fn play(rt: &impl Abort, alloc: Global, rows: &[(Act, &str)], charge: u64) -> Result<(), Fail> {
+/// At server 2 of three, each call is answered so, and at the end the queue has this charge.
+pub(crate) fn follow(
+    rt: &impl Abort,
+    alloc: Global,
+    queue: &mut WorkQueue,
+    shows: &str,
+    charge: u64,
+    rows: &[(Act, &str)],
+) -> Result<(), Fail> {
     let config = Config::new(1, 3, 64)?;
     let mut pushes = PushState::new(config, Server(2));
-    let mut queue = WorkQueue::new(alloc, 64);
-    go_through(rt, alloc, &mut pushes, &mut queue, rows, charge)
+    go_through(rt, alloc, &mut pushes, queue, shows, rows)?;
+    same_charge(rt, shows, queue.charge(), charge);
+    Ok(())
 }
 
-// The calls are answered as their rows say, and the queue has this charge after them.
+// The calls are answered as their rows say.
 fn go_through(
     rt: &impl Abort,
     alloc: Global,
     pushes: &mut PushState,
     queue: &mut WorkQueue,
+    shows: &str,
     rows: &[(Act, &str)],
-    charge: u64,
 ) -> Result<(), Fail> {
     for (act, expected) in rows {
-        check(rt, alloc, pushes, queue, *act, expected)?;
+        let mut given = String::new(alloc);
+        make(alloc, pushes, queue, *act, &mut given)?;
+        same(rt, shows, given.as_str(), expected);
     }
-    assert!(rt; queue.charge() == charge);
     Ok(())
 }
 
-fn check(
-    rt: &impl Abort,
-    alloc: Global,
-    pushes: &mut PushState,
-    queue: &mut WorkQueue,
-    act: Act,
-    expected: &str,
-) -> Result<(), Fail> {
-    let answer = make(alloc, pushes, queue, act)?;
-    same(rt, answer.as_str(), expected);
-    Ok(())
-}
+const SCENES: &[Scene] = &[
+    (
+        "takes and promises up to the limit",
+        64,
+        Script::Pushes(
+            64,
+            &[
+                (Act::Put(0, 60, 0), "Accepted"),
+                (Act::Put(1, 5, 0), "Full { charge: 60 }"),
+                (Act::Query(2, 4), "true"),
+                (Act::Query(3, 1), "false"),
+                (Act::Query(3, 0), "true"),
+                (Act::Put(1, 1, 0), "Full { charge: 64 }"),
+            ],
+        ),
+    ),
+    (
+        "pushes one unit at a time",
+        64,
+        Script::Pushes(
+            63,
+            &[
+                (Act::Put(0, 55, 5), "Accepted"),
+                (Act::Put(1, 1, 3), "Accepted"),
+                (Act::Pressure, "none"),
+                (Act::Put(2, 1, 4), "Accepted"),
+                (Act::Pressure, "0 1 1"),
+                (Act::Put(3, 7, 9), "Accepted"),
+                (Act::Pressure, "none"),
+                (Act::Tells(0, 1), "true false true"),
+                (Act::Tells(1, 1), "false false true"),
+                (Act::Yes, "go 0 1"),
+                (Act::Tells(0, 1), "false true true"),
+                (Act::No, "not so"),
+                (Act::Pressure, "none"),
+                (Act::Ack, "ended"),
+                (Act::Pressure, "1 2 1"),
+                (Act::Pin(2), "pinned"),
+                (Act::Yes, "cancel 1 2"),
+                (Act::Tells(1, 2), "false true true"),
+                (Act::Ack, "ended"),
+                (Act::Pressure, "0 0 55"),
+                (Act::Ack, "not so"),
+                (Act::No, "ended"),
+                (Act::Tells(0, 0), "false false false"),
+                (Act::Pressure, "1 0 55"),
+            ],
+        ),
+    ),
+];
 
 #[test]
-fn takes_and_promises_up_to_the_limit(rt: HostRuntime) -> Result<(), Fail> {
-    const ROWS: &[(Act, &str)] = &[
-        (Act::Put(0, 60, 0), "Accepted"),
-        (Act::Put(1, 5, 0), "Full { charge: 60 }"),
-        (Act::Query(2, 4), "true"),
-        (Act::Query(3, 1), "false"),
-        (Act::Query(3, 0), "true"),
-        (Act::Put(1, 1, 0), "Full { charge: 64 }"),
-    ];
-    play(&rt, rt.alloc(), ROWS, 64)
-}
-
-#[test]
-fn pushes_one_unit_at_a_time(rt: HostRuntime) -> Result<(), Fail> {
-    const ROWS: &[(Act, &str)] = &[
-        (Act::Put(0, 55, 5), "Accepted"),
-        (Act::Put(1, 1, 3), "Accepted"),
-        (Act::Pressure, "none"),
-        (Act::Put(2, 1, 4), "Accepted"),
-        (Act::Pressure, "0 1 1"),
-        (Act::Put(3, 7, 9), "Accepted"),
-        (Act::Pressure, "none"),
-        (Act::Tells(0, 1), "true false true"),
-        (Act::Tells(1, 1), "false false true"),
-        (Act::Yes, "go 0 1"),
-        (Act::Tells(0, 1), "false true true"),
-        (Act::No, "not so"),
-        (Act::Pressure, "none"),
-        (Act::Ack, "ended"),
-        (Act::Pressure, "1 2 1"),
-        (Act::Pin(2), "pinned"),
-        (Act::Yes, "cancel 1 2"),
-        (Act::Tells(1, 2), "false true true"),
-        (Act::Ack, "ended"),
-        (Act::Pressure, "0 0 55"),
-        (Act::Ack, "not so"),
-        (Act::No, "ended"),
-        (Act::Tells(0, 0), "false false false"),
-        (Act::Pressure, "1 0 55"),
-    ];
-    play(&rt, rt.alloc(), ROWS, 63)
+fn pushes_go(rt: HostRuntime) -> Result<(), Fail> {
+    play(&rt, rt.alloc(), SCENES)
 }

@@ -5,16 +5,18 @@ ghost use Rattle.reserve_path.specs.Parked.{IsAway, IsHere, IsOther, is_pending}
 
 use crate::lines::same;
 use crate::queue::{id, is_new, say};
+use crate::queues::{Scene, Script, play};
 use adlb_unit::{Config, Payload, Rank, Server, Target, Types, Unit, UnitId, UnitNote, WorkType};
 use reserve_path::{Parked, ReserveStep};
 use std::alloc::Global;
+use std::fmt::Write;
 use std::process::Abort;
 use std::test::Fail;
 use work_queue::WorkQueue;
 
 // A call. Ranks come first, then the request, then the type that is wanted.
 #[derive(Clone, Copy)]
-enum Act {
+pub(crate) enum Act {
     // A unit of this number, type and target is in the queue.
     Put(u64, u32, Target),
     Reserve(u32, u64, u32),
@@ -87,32 +89,32 @@ fn is_pending(parked: &Parked, rank: Rank) -> bool
 }
 
 // Shows what a reserve came to.
-fn shown(alloc: Global, step: ReserveStep) -> Result<String, Fail> {
+fn shown(text: &mut String, step: ReserveStep) -> Result<(), Fail> {
     match step {
-        ReserveStep::Granted(note) => unit(alloc, Some(note)),
-        ReserveStep::Ask(server) => asks(alloc, server),
-        ReserveStep::Idle => say(alloc, "idle"),
+        ReserveStep::Granted(note) => unit(text, Some(note)),
+        ReserveStep::Ask(server) => asks(text, server),
+        ReserveStep::Idle => say(text, "idle"),
     }
 }
 
 // Shows the unit that was granted.
-fn unit(alloc: Global, note: Option<UnitNote>) -> Result<String, Fail> {
+fn unit(text: &mut String, note: Option<UnitNote>) -> Result<(), Fail> {
     match note {
-        Some(note) => Ok(format!(in alloc; "unit {}", note.id.number)?),
-        None => say(alloc, "none"),
+        Some(note) => Ok(write!(text, "unit {}", note.id.number)?),
+        None => say(text, "none"),
     }
 }
 
 // Shows the server that is to be asked.
-fn asks(alloc: Global, server: Server) -> Result<String, Fail> {
-    Ok(format!(in alloc; "ask {}", server.0)?)
+fn asks(text: &mut String, server: Server) -> Result<(), Fail> {
+    Ok(write!(text, "ask {}", server.0)?)
 }
 
 // Shows a rank and its request.
-fn call(alloc: Global, call: Option<(Rank, u64)>) -> Result<String, Fail> {
+fn call(text: &mut String, call: Option<(Rank, u64)>) -> Result<(), Fail> {
     match call {
-        Some((rank, request)) => Ok(format!(in alloc; "{} {request}", rank.0)?),
-        None => say(alloc, "nobody"),
+        Some((rank, request)) => Ok(write!(text, "{} {request}", rank.0)?),
+        None => say(text, "nobody"),
     }
 }
 
@@ -132,74 +134,71 @@ fn reserve(
 
 // What the server that was asked for the rank answers.
 fn answer(
-    alloc: Global,
+    text: &mut String,
     parked: &mut Parked,
     queue: &mut WorkQueue,
     act: Act,
-) -> Result<String, Fail> {
+) -> Result<(), Fail> {
     match act {
         Act::None(rank) if is_pending(parked, Rank(rank)) => {
-            shown(alloc, parked.remote_none(queue, Rank(rank)))
+            shown(text, parked.remote_none(queue, Rank(rank)))
         }
         Act::Grant(rank) if is_pending(parked, Rank(rank)) => {
             parked.remote_grant(Rank(rank));
-            say(alloc, "done")
+            say(text, "done")
         }
         Act::End(rank) if is_pending(parked, Rank(rank)) => {
             parked.remote_end(Rank(rank));
-            say(alloc, "done")
+            say(text, "done")
         }
-        _ => say(alloc, "not so"),
+        _ => say(text, "not so"),
     }
 }
 
 // What is asked here for a rank of another home.
 fn ask(
-    alloc: Global,
+    text: &mut String,
     parked: &mut Parked,
     queue: &mut WorkQueue,
     act: Act,
-) -> Result<String, Fail> {
+) -> Result<(), Fail> {
     match act {
         Act::Ask(rank, request, kind) if is_away(parked, Rank(rank)) => {
             let types = only(kind)?;
-            unit(alloc, parked.remote_ask(queue, Rank(rank), request, &types))
+            unit(text, parked.remote_ask(queue, Rank(rank), request, &types))
         }
         Act::Refuse(rank, request, kind) if is_away(parked, Rank(rank)) => {
             let types = only(kind)?;
             parked.refuse_ask(Rank(rank), request, &types);
-            say(alloc, "done")
+            say(text, "done")
         }
-        Act::NextHint(kind, target) => call(alloc, parked.next_hint(WorkType(kind), target)),
-        _ => say(alloc, "not so"),
+        Act::NextHint(kind, target) => call(text, parked.next_hint(WorkType(kind), target)),
+        _ => say(text, "not so"),
     }
 }
 
 // Offers the unit of this number, if it is free.
 fn offer(
-    alloc: Global,
+    text: &mut String,
     parked: &mut Parked,
     queue: &mut WorkQueue,
     number: u64,
-) -> Result<String, Fail> {
+) -> Result<(), Fail> {
     let unit = id(number);
     if !queue.is_free(unit) {
-        return say(alloc, "not so");
+        return say(text, "not so");
     }
     match parked.offer(queue, unit) {
-        Some((rank, request, note)) => Ok(format!(in alloc;
-            "{} {request} {}",
-            rank.0, note.id.number
-        )?),
-        None => say(alloc, "nobody"),
+        Some((rank, request, note)) => Ok(write!(text, "{} {request} {}", rank.0, note.id.number)?),
+        None => say(text, "nobody"),
     }
 }
 
 // What is said of those that wait.
-fn told(alloc: Global, parked: &Parked) -> Result<String, Fail> {
+fn told(text: &mut String, parked: &Parked) -> Result<(), Fail> {
     let mut room = std::array::from_fn(|_| (Rank(9), Types::any()));
     let count = parked.asked(&mut room);
-    Ok(format!(in alloc; "{} {count} {}", parked.unanswered(), room[0].0.0)?)
+    Ok(write!(text, "{} {count} {}", parked.unanswered(), room[0].0.0)?)
 }
 
 // Makes the call, and shows its answer.
@@ -208,91 +207,98 @@ fn make(
     parked: &mut Parked,
     queue: &mut WorkQueue,
     act: Act,
-) -> Result<String, Fail> {
+    text: &mut String,
+) -> Result<(), Fail> {
     match act {
         Act::Put(number, kind, target) => {
             put(alloc, queue, number, kind, target);
-            say(alloc, "put")
+            say(text, "put")
         }
         Act::Reserve(rank, request, kind) => {
-            reserves(alloc, parked, queue, Rank(rank), request, kind)
+            reserves(text, parked, queue, Rank(rank), request, kind)
         }
-        Act::Try(rank, kind) => tries(alloc, parked, queue, Rank(rank), kind),
-        Act::Offer(number) => offer(alloc, parked, queue, number),
-        Act::EndIdle => call(alloc, parked.end_idle()),
-        Act::All => told(alloc, parked),
-        Act::Awaits(rank) => awaits(alloc, parked, Rank(rank)),
-        Act::Hint(rank, request, from) => hint(alloc, parked, Rank(rank), request, Server(from)),
-        Act::Ask(..) | Act::Refuse(..) | Act::NextHint(..) => ask(alloc, parked, queue, act),
-        _ => answer(alloc, parked, queue, act),
+        Act::Try(rank, kind) => tries(text, parked, queue, Rank(rank), kind),
+        Act::Offer(number) => offer(text, parked, queue, number),
+        Act::EndIdle => call(text, parked.end_idle()),
+        Act::All => told(text, parked),
+        Act::Awaits(rank) => awaits(text, parked, Rank(rank)),
+        Act::Hint(rank, request, from) => hint(text, parked, Rank(rank), request, Server(from)),
+        Act::Ask(..) | Act::Refuse(..) | Act::NextHint(..) => ask(text, parked, queue, act),
+        _ => answer(text, parked, queue, act),
     }
 }
 
 fn reserves(
-    alloc: Global,
+    text: &mut String,
     parked: &mut Parked,
     queue: &mut WorkQueue,
     rank: Rank,
     request: u64,
     kind: u32,
-) -> Result<String, Fail> {
+) -> Result<(), Fail> {
     let types = only(kind)?;
     let step = reserve(parked, queue, rank, request, &types);
-    reserved(alloc, step)
+    reserved(text, step)
 }
 
-fn reserved(alloc: Global, step: Option<ReserveStep>) -> Result<String, Fail> {
+fn reserved(text: &mut String, step: Option<ReserveStep>) -> Result<(), Fail> {
     match step {
-        Some(step) => shown(alloc, step),
-        None => say(alloc, "not so"),
+        Some(step) => shown(text, step),
+        None => say(text, "not so"),
     }
 }
 
 // Tries for a rank of the run.
 fn tries(
-    alloc: Global,
+    text: &mut String,
     parked: &mut Parked,
     queue: &mut WorkQueue,
     rank: Rank,
     kind: u32,
-) -> Result<String, Fail> {
+) -> Result<(), Fail> {
     if rank.0 >= parked.seat().0.ranks {
-        return say(alloc, "not so");
+        return say(text, "not so");
     }
-    unit(alloc, parked.try_reserve(queue, rank, &only(kind)?))
+    unit(text, parked.try_reserve(queue, rank, &only(kind)?))
 }
 
 // The request of a rank that waits, and the server that was asked.
-fn awaits(alloc: Global, parked: &Parked, rank: Rank) -> Result<String, Fail> {
-    Ok(format!(in alloc; "{:?}", parked.awaits(rank))?)
+fn awaits(text: &mut String, parked: &Parked, rank: Rank) -> Result<(), Fail> {
+    Ok(write!(text, "{:?}", parked.awaits(rank))?)
 }
 
 // Hears a hint.
 fn hint(
-    alloc: Global,
+    text: &mut String,
     parked: &mut Parked,
     rank: Rank,
     request: u64,
     from: Server,
-) -> Result<String, Fail> {
+) -> Result<(), Fail> {
     if !is_here(parked, rank) || !is_other(parked, from) {
-        return say(alloc, "not so");
+        return say(text, "not so");
     }
     match parked.hint(rank, request, from) {
-        Some(server) => asks(alloc, server),
-        None => say(alloc, "later"),
+        Some(server) => asks(text, server),
+        None => say(text, "later"),
     }
 }
 
-// In a run of these many servers, each call is answered so.
-fn play(rt: &impl Abort, alloc: Global, servers: u32, rows: &[(Act, &str)]) -> Result<(), Fail> {
+/// In a run of so many servers, each call is answered so.
+pub(crate) fn follow(
+    rt: &impl Abort,
+    alloc: Global,
+    queue: &mut WorkQueue,
+    shows: &str,
+    servers: u32,
+    rows: &[(Act, &str)],
+) -> Result<(), Fail> {
     let config = Config::new(6, servers, 64)?;
     if servers == 0 {
-        return Ok(());
+        return Err("no servers".into());
     }
     let mut parked = Parked::new(alloc, config, Server(0))?;
-    let mut queue = WorkQueue::new(alloc, 64);
-    go_through(rt, alloc, &mut parked, &mut queue, rows)
+    go_through(rt, alloc, &mut parked, queue, shows, rows)
 }
 
 // The calls are answered as their rows say.
@@ -301,107 +307,113 @@ fn go_through(
     alloc: Global,
     parked: &mut Parked,
     queue: &mut WorkQueue,
+    shows: &str,
     rows: &[(Act, &str)],
 ) -> Result<(), Fail> {
     for (act, expected) in rows {
-        check(rt, alloc, parked, queue, *act, expected)?;
+        let mut given = String::new(alloc);
+        make(alloc, parked, queue, *act, &mut given)?;
+        same(rt, shows, given.as_str(), expected);
     }
     Ok(())
 }
 
-fn check(
-    rt: &impl Abort,
-    alloc: Global,
-    parked: &mut Parked,
-    queue: &mut WorkQueue,
-    act: Act,
-    expected: &str,
-) -> Result<(), Fail> {
-    let answer = make(alloc, parked, queue, act)?;
-    same(rt, answer.as_str(), expected);
-    Ok(())
-}
+const SCENES: &[Scene] = &[
+    (
+        "asks one server after the other",
+        64,
+        Script::Waits(
+            3,
+            &[
+                (Act::Reserve(0, 7, 5), "ask 1"),
+                (Act::Awaits(0), "Some((7, Some(Server(1))))"),
+                (Act::All, "true 1 0"),
+                (Act::EndIdle, "nobody"),
+                (Act::None(0), "ask 2"),
+                (Act::None(0), "idle"),
+                (Act::All, "false 1 0"),
+                (Act::Hint(0, 6, 1), "later"),
+                (Act::Hint(0, 7, 2), "ask 2"),
+                (Act::Hint(0, 7, 2), "later"),
+                (Act::Hint(0, 7, 1), "later"),
+                (Act::None(0), "ask 1"),
+                (Act::None(0), "ask 2"),
+                (Act::Grant(0), "done"),
+                (Act::Awaits(0), "None"),
+                (Act::All, "false 0 9"),
+            ],
+        ),
+    ),
+    (
+        "looks at its own queue first",
+        64,
+        Script::Waits(
+            3,
+            &[
+                (Act::Reserve(3, 7, 5), "ask 1"),
+                (Act::Put(1, 5, Target::Any), "put"),
+                (Act::Offer(1), "nobody"),
+                (Act::None(3), "unit 1"),
+                (Act::Awaits(3), "None"),
+                (Act::Put(2, 5, Target::Only(Rank(3))), "put"),
+                (Act::Try(0, 5), "none"),
+                (Act::Reserve(3, 8, 5), "unit 2"),
+                (Act::Reserve(3, 9, 5), "ask 1"),
+                (Act::End(3), "done"),
+                (Act::Awaits(3), "None"),
+            ],
+        ),
+    ),
+    (
+        "gives a unit to an idle rank",
+        64,
+        Script::Waits(
+            1,
+            &[
+                (Act::Reserve(0, 1, 5), "idle"),
+                (Act::Reserve(1, 1, 5), "idle"),
+                (Act::Reserve(2, 1, 6), "idle"),
+                (Act::All, "false 3 0"),
+                (Act::Put(1, 5, Target::Any), "put"),
+                (Act::Offer(1), "0 1 1"),
+                (Act::Reserve(0, 2, 5), "idle"),
+                (Act::Put(2, 5, Target::Soft(Rank(0))), "put"),
+                (Act::Offer(2), "0 2 2"),
+                (Act::Put(3, 5, Target::Only(Rank(0))), "put"),
+                (Act::Offer(3), "nobody"),
+                (Act::EndIdle, "1 1"),
+                (Act::EndIdle, "2 1"),
+                (Act::EndIdle, "nobody"),
+            ],
+        ),
+    ),
+    (
+        "keeps one wish a rank",
+        64,
+        Script::Waits(
+            3,
+            &[
+                (Act::Ask(1, 4, 5), "none"),
+                (Act::Ask(2, 3, 5), "none"),
+                (Act::Ask(1, 5, 5), "none"),
+                (Act::NextHint(6, Target::Any), "nobody"),
+                (Act::NextHint(5, Target::Any), "2 3"),
+                (Act::NextHint(5, Target::Any), "1 5"),
+                (Act::NextHint(5, Target::Any), "nobody"),
+                (Act::Refuse(1, 6, 5), "done"),
+                (Act::Refuse(2, 7, 5), "done"),
+                (Act::NextHint(5, Target::Soft(Rank(2))), "2 7"),
+                (Act::Put(1, 5, Target::Only(Rank(1))), "put"),
+                (Act::Ask(2, 8, 5), "none"),
+                (Act::Ask(1, 8, 5), "unit 1"),
+                (Act::NextHint(5, Target::Any), "2 8"),
+                (Act::NextHint(5, Target::Any), "nobody"),
+            ],
+        ),
+    ),
+];
 
 #[test]
-fn asks_one_server_after_the_other(rt: HostRuntime) -> Result<(), Fail> {
-    const ROWS: &[(Act, &str)] = &[
-        (Act::Reserve(0, 7, 5), "ask 1"),
-        (Act::Awaits(0), "Some((7, Some(Server(1))))"),
-        (Act::All, "true 1 0"),
-        (Act::EndIdle, "nobody"),
-        (Act::None(0), "ask 2"),
-        (Act::None(0), "idle"),
-        (Act::All, "false 1 0"),
-        (Act::Hint(0, 6, 1), "later"),
-        (Act::Hint(0, 7, 2), "ask 2"),
-        (Act::Hint(0, 7, 2), "later"),
-        (Act::Hint(0, 7, 1), "later"),
-        (Act::None(0), "ask 1"),
-        (Act::None(0), "ask 2"),
-        (Act::Grant(0), "done"),
-        (Act::Awaits(0), "None"),
-        (Act::All, "false 0 9"),
-    ];
-    play(&rt, rt.alloc(), 3, ROWS)
-}
-
-#[test]
-fn looks_at_its_own_queue_first(rt: HostRuntime) -> Result<(), Fail> {
-    const ROWS: &[(Act, &str)] = &[
-        (Act::Reserve(3, 7, 5), "ask 1"),
-        (Act::Put(1, 5, Target::Any), "put"),
-        (Act::Offer(1), "nobody"),
-        (Act::None(3), "unit 1"),
-        (Act::Awaits(3), "None"),
-        (Act::Put(2, 5, Target::Only(Rank(3))), "put"),
-        (Act::Try(0, 5), "none"),
-        (Act::Reserve(3, 8, 5), "unit 2"),
-        (Act::Reserve(3, 9, 5), "ask 1"),
-        (Act::End(3), "done"),
-        (Act::Awaits(3), "None"),
-    ];
-    play(&rt, rt.alloc(), 3, ROWS)
-}
-
-#[test]
-fn gives_a_unit_to_an_idle_rank(rt: HostRuntime) -> Result<(), Fail> {
-    const ROWS: &[(Act, &str)] = &[
-        (Act::Reserve(0, 1, 5), "idle"),
-        (Act::Reserve(1, 1, 5), "idle"),
-        (Act::Reserve(2, 1, 6), "idle"),
-        (Act::All, "false 3 0"),
-        (Act::Put(1, 5, Target::Any), "put"),
-        (Act::Offer(1), "0 1 1"),
-        (Act::Reserve(0, 2, 5), "idle"),
-        (Act::Put(2, 5, Target::Soft(Rank(0))), "put"),
-        (Act::Offer(2), "0 2 2"),
-        (Act::Put(3, 5, Target::Only(Rank(0))), "put"),
-        (Act::Offer(3), "nobody"),
-        (Act::EndIdle, "1 1"),
-        (Act::EndIdle, "2 1"),
-        (Act::EndIdle, "nobody"),
-    ];
-    play(&rt, rt.alloc(), 1, ROWS)
-}
-
-#[test]
-fn keeps_one_wish_a_rank(rt: HostRuntime) -> Result<(), Fail> {
-    const ROWS: &[(Act, &str)] = &[
-        (Act::Ask(1, 4, 5), "none"),
-        (Act::Ask(2, 3, 5), "none"),
-        (Act::Ask(1, 5, 5), "none"),
-        (Act::NextHint(6, Target::Any), "nobody"),
-        (Act::NextHint(5, Target::Any), "2 3"),
-        (Act::NextHint(5, Target::Any), "1 5"),
-        (Act::NextHint(5, Target::Any), "nobody"),
-        (Act::Refuse(1, 6, 5), "done"),
-        (Act::Refuse(2, 7, 5), "done"),
-        (Act::NextHint(5, Target::Soft(Rank(2))), "2 7"),
-        (Act::Put(1, 5, Target::Only(Rank(1))), "put"),
-        (Act::Ask(2, 8, 5), "none"),
-        (Act::Ask(1, 8, 5), "unit 1"),
-        (Act::NextHint(5, Target::Any), "2 8"),
-        (Act::NextHint(5, Target::Any), "nobody"),
-    ];
-    play(&rt, rt.alloc(), 3, ROWS)
+fn ranks_wait(rt: HostRuntime) -> Result<(), Fail> {
+    play(&rt, rt.alloc(), SCENES)
 }
