@@ -1,6 +1,6 @@
 //! Clients driven by hand, a call or a letter at a time, with letters, entries and answers that were found by hand.
 
-use crate::lines::same;
+use crate::lines::{add_yes, same, show};
 use adlb_unit::{
     Actor, BatchId, CommonRef, Config, End, Info, Letter, Message, Payload, Rank, Sending, Server,
     Target, Types, UnitId, UnitNote, WorkType,
@@ -63,7 +63,7 @@ enum Line {
     Expects(u32, u64, Says),
     // How many calls are answered.
     Answered,
-    // The last call that is answered, with its answer.
+    // The call that was begun last, with its answer if there is one.
     SaidLast,
 }
 
@@ -223,18 +223,28 @@ fn hear(
     Ok(client.hear(step, Server(from), letter)?)
 }
 
-fn is_ready(alloc: Global, client: &ClientCore, makes: Makes) -> Result<bool, Fail> {
-    Ok(client.ready(&call(alloc, makes)?))
+// Whether the client is ready for the call.
+fn add_ready(
+    alloc: Global,
+    client: &ClientCore,
+    makes: Makes,
+    all: &mut String,
+) -> Result<(), Fail> {
+    let call = call(alloc, makes)?;
+    add_yes(all, client.ready(&call))
 }
 
-fn expects(
+// Whether the client expects the letter.
+fn add_expects(
     alloc: Global,
     client: &ClientCore,
     from: u32,
     stamp: u64,
     says: Says,
-) -> Result<bool, Fail> {
-    Ok(client.expects(Server(from), &letter(alloc, stamp, says)?))
+    all: &mut String,
+) -> Result<(), Fail> {
+    let letter = letter(alloc, stamp, says)?;
+    add_yes(all, client.expects(Server(from), &letter))
 }
 
 // To whom letters go, with the batch of a unit, what the end of a batch tells, and that the problem is done.
@@ -375,17 +385,11 @@ fn add_line(
     told.hear(line, step);
     match line {
         Line::Begins(_) | Line::Hears(..) => add_step(all, step),
-        Line::IsReady(makes) => add_yes(all, is_ready(alloc, client, makes)?),
-        Line::Expects(from, stamp, says) => {
-            add_yes(all, expects(alloc, client, from, stamp, says)?)
-        }
-        Line::Answered => Ok(write!(all, "{}", told.answered)?),
+        Line::IsReady(makes) => add_ready(alloc, client, makes, all),
+        Line::Expects(from, stamp, says) => add_expects(alloc, client, from, stamp, says, all),
+        Line::Answered => show(all, &told.answered),
         Line::SaidLast => add_last(alloc, all, step, told),
     }
-}
-
-fn add_yes(all: &mut String, holds: bool) -> Result<(), Fail> {
-    Ok(all.push_str(if holds { "yes" } else { "no" })?)
 }
 
 // The call that the client began last, with its answer.
@@ -401,7 +405,7 @@ fn add_last(alloc: Global, all: &mut String, step: &ClientStep, told: &Told) -> 
 
 fn add_call(alloc: Global, all: &mut String, makes: Makes) -> Result<(), Fail> {
     let call = call(alloc, makes)?;
-    Ok(write!(all, "{call:?}")?)
+    show(all, &call)
 }
 
 // What it shows, the number of servers, and the lines, each with what it gives.
@@ -409,22 +413,15 @@ type Scene = (&'static str, u32, &'static [(Line, &'static str)]);
 
 // In each scene a client of rank 0, one of two ranks, gives what is written beside each line.
 fn play(rt: &impl Abort, alloc: Global, scenes: &[Scene]) -> Result<(), Fail> {
-    for (shows, servers, lines) in scenes {
-        let config = Config::new(2, *servers, 64)?;
-        play_one(rt, alloc, config, shows, lines)?;
+    for scene in scenes {
+        play_one(rt, alloc, Config::new(2, scene.1, 64)?, scene)?;
     }
     Ok(())
 }
 
-fn play_one(
-    rt: &impl Abort,
-    alloc: Global,
-    config: Config,
-    shows: &str,
-    lines: &[(Line, &str)],
-) -> Result<(), Fail> {
+fn play_one(rt: &impl Abort, alloc: Global, config: Config, scene: &Scene) -> Result<(), Fail> {
     let mut client = ClientCore::new(alloc, config, Rank(0))?;
-    with_step(rt, alloc, &mut client, shows, lines)
+    with_step(rt, alloc, &mut client, scene)
 }
 
 // The client makes its steps here. (By itself, so that what the client owns is not seen with what the step does.)
@@ -432,11 +429,10 @@ fn with_step(
     rt: &impl Abort,
     alloc: Global,
     client: &mut ClientCore,
-    shows: &str,
-    lines: &[(Line, &str)],
+    scene: &Scene,
 ) -> Result<(), Fail> {
     let mut step = ClientStep::new(alloc)?;
-    go_through(rt, alloc, client, &mut step, shows, lines)
+    go_through(rt, alloc, client, &mut step, scene)
 }
 
 // The client gives what is written beside each line.
@@ -445,14 +441,13 @@ fn go_through(
     alloc: Global,
     client: &mut ClientCore,
     step: &mut ClientStep,
-    shows: &str,
-    lines: &[(Line, &str)],
+    (shows, _, lines): &Scene,
 ) -> Result<(), Fail> {
     let mut told = Told {
         begun: None,
         answered: 0,
     };
-    for (line, expected) in lines {
+    for (line, expected) in *lines {
         let mut given = String::new(alloc);
         add_line(alloc, client, step, &mut told, *line, &mut given)?;
         same(rt, shows, given.as_str(), expected);

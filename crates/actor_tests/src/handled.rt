@@ -2,7 +2,7 @@
 
 ghost use Rattle.std.specs.Prelude.{◌<◌};
 
-use crate::lines::same;
+use crate::lines::{add_yes, same, show};
 use adlb_unit::{
     Actor, AskedList, BatchId, Config, Letter, Message, Payload, Rank, Sending, Server, Target,
     Token, Trouble, Types, Unit, UnitId, UnitNote, Why, WorkType,
@@ -269,14 +269,17 @@ fn letter(alloc: Global, stamp: u64, says: Says) -> Result<Letter, Fail> {
     })
 }
 
-fn expects(
+// Whether the server expects the letter.
+fn add_expects(
     alloc: Global,
     server: &ServerState,
     from: Actor,
     stamp: u64,
     says: Says,
-) -> Result<bool, Fail> {
-    Ok(server.expects(from, &letter(alloc, stamp, says)?))
+    text: &mut String,
+) -> Result<(), Fail> {
+    let letter = letter(alloc, stamp, says)?;
+    add_yes(text, server.expects(from, &letter))
 }
 
 // How the letters of a step are shown.
@@ -309,7 +312,7 @@ fn add_heard(
 fn add_trouble(text: &mut String, trouble: Trouble) -> Result<(), Fail> {
     match trouble {
         Trouble::Memory => Err(trouble.into()),
-        Trouble::TooLong { .. } => Ok(write!(text, "{trouble:?}")?),
+        Trouble::TooLong { .. } => show(text, &trouble),
     }
 }
 
@@ -458,11 +461,11 @@ fn add_told(
     text: &mut String,
 ) -> Result<(), Fail> {
     match line {
-        Line::Expects(from, says) => add_yes(text, expects(alloc, server, from, 0, says)?),
-        Line::ExpectsAt(stamp) => add_yes(text, expects(alloc, server, RANK, stamp, Says::Finish)?),
+        Line::Expects(from, says) => add_expects(alloc, server, from, 0, says, text),
+        Line::ExpectsAt(stamp) => add_expects(alloc, server, RANK, stamp, Says::Finish, text),
         Line::IsQuiet => add_yes(text, server.is_quiet()),
         Line::HasEnded => add_yes(text, server.ended()),
-        Line::Broken => Ok(write!(text, "{:?}", server.broken())?),
+        Line::Broken => show(text, &server.broken()),
         Line::Left => add_left(text, server),
         _ => Ok(()),
     }
@@ -470,11 +473,7 @@ fn add_told(
 
 fn add_left(text: &mut String, server: &ServerState) -> Result<(), Fail> {
     let left = server.left()?;
-    Ok(write!(text, "{left:?}")?)
-}
-
-fn add_yes(text: &mut String, holds: bool) -> Result<(), Fail> {
-    Ok(text.push_str(if holds { "yes" } else { "no" })?)
+    show(text, &left)
 }
 
 /// What it shows; the numbers of ranks and servers of the run, and which server it is; and the lines, each with what it
@@ -487,12 +486,18 @@ pub(crate) type Scene = (
 
 /// In each scene a server with the lowest limit gives what is written beside each line.
 pub(crate) fn play(rt: &impl Abort, alloc: Global, scenes: &[Scene]) -> Result<(), Fail> {
-    for (shows, (ranks, servers, me), lines) in scenes {
-        if *me >= *servers {
+    for scene in scenes {
+        let (_, (ranks, servers, me), _) = *scene;
+        if me >= servers {
             return Err("no such server".into());
         }
-        let config = Config::new(*ranks, *servers, 64)?;
-        play_one(rt, alloc, config, *me, shows, lines)?;
+        play_one(
+            rt,
+            alloc,
+            Config::new(ranks, servers, 64)?,
+            Server(me),
+            scene,
+        )?;
     }
     Ok(())
 }
@@ -501,14 +506,13 @@ fn play_one(
     rt: &impl Abort,
     alloc: Global,
     config: Config,
-    me: u32,
-    shows: &str,
-    lines: &[(Line, &str)],
+    me: Server,
+    scene: &Scene,
 ) -> Result<(), Fail>
-    requires { me < config.servers }
+    requires { me.0 < config.servers }
 {
-    let mut server = ServerState::new(alloc, config, Server(me))?;
-    go_through(rt, alloc, &mut server, shows, lines)
+    let mut server = ServerState::new(alloc, config, me)?;
+    go_through(rt, alloc, &mut server, scene)
 }
 
 // The server gives what is written beside each line.
@@ -516,10 +520,9 @@ fn go_through(
     rt: &impl Abort,
     alloc: Global,
     server: &mut ServerState,
-    shows: &str,
-    lines: &[(Line, &str)],
+    (shows, _, lines): &Scene,
 ) -> Result<(), Fail> {
-    for (line, expected) in lines {
+    for (line, expected) in *lines {
         let mut given = String::new(alloc);
         add_line(alloc, server, *line, &mut given)?;
         same(rt, shows, given.as_str(), expected);

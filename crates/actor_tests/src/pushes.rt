@@ -3,7 +3,7 @@
 ghost use Rattle.std.specs.Prelude.{◌≡◌};
 ghost use Rattle.put_path.specs.Pushes.{is_query, is_under_way};
 
-use crate::lines::{same, same_charge};
+use crate::lines::{same, same_charge, show};
 use crate::queue::{id, is_new, say};
 use crate::queues::{Scene, Script, play};
 use adlb_unit::{Config, Payload, Rank, Server, Target, Unit, UnitId, WorkType};
@@ -73,7 +73,7 @@ fn put_new(
         common: None,
         body,
     };
-    Ok(write!(text, "{:?}", put(queue, unit)?)?)
+    show(text, &put(queue, unit)?)
 }
 
 // Asks for room for a unit of this id, if that is new.

@@ -3,7 +3,7 @@
 ghost use Rattle.std.specs.Prelude.{◌≡◌, ◌≤◌, IfOk, IsTrue, length};
 ghost use Rattle.work_queue.specs.Queue.{HasNoPromise, HasNoUnit};
 
-use crate::lines::same;
+use crate::lines::{same, show};
 use crate::queues::{Scene, Script, play};
 use adlb_unit::{Info, Payload, Rank, Target, Types, Unit, UnitId, WorkType};
 use std::alloc::Global;
@@ -178,18 +178,13 @@ fn tell(queue: &WorkQueue, id: UnitId, text: &mut String) -> Result<(), Fail> {
 // What the queue tells.
 fn told(queue: &WorkQueue, step: Step, text: &mut String) -> Result<(), Fail> {
     match step {
-        Step::Push => pair(text, first_to_push(queue)),
+        Step::Push => show(text, &first_to_push(queue)),
         Step::Fits(one, other, kind) => fits(queue, one, other, kind, text),
         Step::Counts(kind) => counts(text, queue.counts(WorkType(kind))),
         Step::At(place) => at(queue, place, text),
         Step::Tell(number) => tell(queue, id(number), text),
         _ => Ok(write!(text, "{} {}", queue.charge(), queue.arrivals())?),
     }
-}
-
-// The number and the length of a unit, if there is one.
-fn pair(text: &mut String, unit: Option<(u64, u32)>) -> Result<(), Fail> {
-    Ok(write!(text, "{unit:?}")?)
 }
 
 fn first_to_push(queue: &WorkQueue) -> Option<(u64, u32)> {
@@ -204,7 +199,7 @@ fn fits(queue: &WorkQueue, one: u32, other: u32, kind: u32, text: &mut String) -
         (Rank(other), types(Some(kind))?),
     ];
     let found = queue.fits(&asked);
-    Ok(write!(text, "{:?}", found.map(|id| id.number))?)
+    show(text, &found.map(|id| id.number))
 }
 
 fn counts(text: &mut String, info: Info) -> Result<(), Fail> {
@@ -214,7 +209,7 @@ fn counts(text: &mut String, info: Info) -> Result<(), Fail> {
 // The number of the unit at this place, and the rank to which it is pinned.
 fn at(queue: &WorkQueue, place: u64, text: &mut String) -> Result<(), Fail> {
     let seen = queue.unit_at(place);
-    Ok(write!(text, "{:?}", seen.map(|at| (at.0.number, at.1)))?)
+    show(text, &seen.map(|at| (at.0.number, at.1)))
 }
 
 // Makes the step, and shows its answer.
@@ -235,22 +230,18 @@ fn answer(alloc: Global, queue: &mut WorkQueue, step: Step, text: &mut String) -
         }
         Step::Hold(n) => hold(queue, n, 0, text),
         Step::HoldFor(n, given) => hold(queue, n, given, text),
-        Step::Give(rank, kind) => pair(text, give(queue, rank, &types(kind)?)),
+        Step::Give(rank, kind) => show(text, &give(queue, rank, &types(kind)?)),
         Step::Take(number, rank) => taken(text, take(queue, id(number), Rank(rank))),
-        Step::Remove(number) => removed(text, remove(queue, id(number))),
+        Step::Remove(number) => show(text, &remove(queue, id(number))),
         _ => told(queue, step, text),
     }
-}
-
-fn removed(text: &mut String, length: Option<usize>) -> Result<(), Fail> {
-    Ok(write!(text, "{length:?}")?)
 }
 
 // The bytes that were taken.
 fn taken(text: &mut String, body: Option<Payload>) -> Result<(), Fail> {
     match &body {
         None => say(text, "none"),
-        Some(body) => Ok(write!(text, "{:?}", body.bytes())?),
+        Some(body) => show(text, &body.bytes()),
     }
 }
 

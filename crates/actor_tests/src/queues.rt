@@ -29,17 +29,16 @@ pub(crate) fn play(rt: &impl Abort, alloc: Global, scenes: &[Scene]) -> Result<(
     Ok(())
 }
 
-fn with_queue(rt: &impl Abort, alloc: Global, (shows, limit, script): &Scene) -> Result<(), Fail> {
-    let mut queue = WorkQueue::new(alloc, *limit);
-    follow(rt, alloc, &mut queue, shows, script)
+fn with_queue(rt: &impl Abort, alloc: Global, scene: &Scene) -> Result<(), Fail> {
+    let mut queue = WorkQueue::new(alloc, scene.1);
+    follow(rt, alloc, &mut queue, scene)
 }
 
 fn follow(
     rt: &impl Abort,
     alloc: Global,
     queue: &mut WorkQueue,
-    shows: &str,
-    script: &Script,
+    (shows, _, script): &Scene,
 ) -> Result<(), Fail> {
     match script {
         Script::Queue(rows) => queue::go_through(rt, alloc, queue, shows, rows),

@@ -3,7 +3,7 @@
 ghost use Rattle.std.specs.Prelude.{◌≡◌, IsTrue, true};
 ghost use Rattle.reserve_path.specs.Parked.{IsAway, IsHere, IsOther, is_pending};
 
-use crate::lines::same;
+use crate::lines::{same, show};
 use crate::queue::{id, is_new, say};
 use crate::queues::{Scene, Script, play};
 use adlb_unit::{Config, Payload, Rank, Server, Target, Types, Unit, UnitId, UnitNote, WorkType};
@@ -221,7 +221,7 @@ fn make(
         Act::Offer(number) => offer(text, parked, queue, number),
         Act::EndIdle => call(text, parked.end_idle()),
         Act::All => told(text, parked),
-        Act::Awaits(rank) => awaits(text, parked, Rank(rank)),
+        Act::Awaits(rank) => show(text, &parked.awaits(Rank(rank))),
         Act::Hint(rank, request, from) => hint(text, parked, Rank(rank), request, Server(from)),
         Act::Ask(..) | Act::Refuse(..) | Act::NextHint(..) => ask(text, parked, queue, act),
         _ => answer(text, parked, queue, act),
@@ -260,11 +260,6 @@ fn tries(
         return say(text, "not so");
     }
     unit(text, parked.try_reserve(queue, rank, &only(kind)?))
-}
-
-// The request of a rank that waits, and the server that was asked.
-fn awaits(text: &mut String, parked: &Parked, rank: Rank) -> Result<(), Fail> {
-    Ok(write!(text, "{:?}", parked.awaits(rank))?)
 }
 
 // Hears a hint.
