@@ -1,41 +1,46 @@
 //! Runs that are driven at random, three of four with several servers, and each with one entry changed.
 
 use crate::calls::Words;
-use crate::changes::{changed, copied};
+use crate::changes::changed;
 use crate::scripts::driven;
 use adlb_unit::{Config, End, Rank, UnitId};
 use bag_ledger::Entry;
 use ledger_checker::first_illegal;
-use packed_ledger::Ledger;
+use packed_ledger::{Entries, Ledger};
 use std::alloc::Global;
 use std::test::Fail;
 
 /// How many runs.
 const RUNS: u64 = 10000;
 
-// The entries, the one at this place changed, are pushed.
+// The entries of the ledger are pushed, the one at this place changed.
 fn push_changed(
     alloc: Global,
-    ledger: &mut Ledger,
-    entries: &[Entry],
-    place: usize,
+    other: &mut Ledger,
+    ledger: &Ledger,
+    place: u64,
 ) -> Result<(), Fail> {
-    for (at, entry) in entries.iter().enumerate() {
-        let entry = if at == place {
-            changed(entry)?
-        } else {
-            copied(alloc, entry)?
-        };
-        ledger.push(entry)?;
+    let mut entries = ledger.entries();
+    for at in 0..ledger.len() {
+        push_next(alloc, other, &mut entries, at == place)?;
     }
     Ok(())
 }
 
-// The ledger of these entries, the one at this place changed.
-fn with_change(alloc: Global, entries: &[Entry], place: usize) -> Result<Ledger, Fail> {
-    let mut ledger = Ledger::new(alloc);
-    push_changed(alloc, &mut ledger, entries, place)?;
-    Ok(ledger)
+fn push_next(
+    alloc: Global,
+    other: &mut Ledger,
+    entries: &mut Entries,
+    is_changed: bool,
+) -> Result<(), Fail> {
+    if let Some(entry) = entries.next(alloc)? {
+        other.push(changed_if(entry, is_changed))?;
+    }
+    Ok(())
+}
+
+fn changed_if(entry: Entry, is_so: bool) -> Entry {
+    if is_so { changed(entry) } else { entry }
 }
 
 // The numbers of the run of this number: up to six ranks and four servers, and limits that are soon reached.
@@ -83,22 +88,20 @@ fn ends(entry: &Entry, number: u32) -> bool {
     }
 }
 
-// With the entry at this place changed, the ledger of these entries is illegal there.
-fn shows(alloc: Global, entries: &[Entry], config: &Config, place: usize) -> Result<bool, Fail> {
-    let other = with_change(alloc, entries, place)?;
-    Ok(first_illegal(alloc, &other, config) == Ok(Some(place as u64)))
+// With the entry at this place changed, the ledger is illegal there.
+fn shows(alloc: Global, ledger: &Ledger, config: &Config, place: u64) -> Result<bool, Fail> {
+    let mut other = Ledger::new(alloc);
+    push_changed(alloc, &mut other, ledger, place)?;
+    Ok(first_illegal(alloc, &other, config) == Ok(Some(place)))
 }
 
-// The ledger, which has these entries, is legal, and with one of them changed it is illegal at that place.
-fn is_judged(
-    alloc: Global,
-    ledger: &Ledger,
-    entries: &[Entry],
-    config: &Config,
-    number: u64,
-) -> Result<bool, Fail> {
-    let place = Words::new(number.wrapping_add(RUNS)).place(entries.len());
-    Ok(first_illegal(alloc, ledger, config) == Ok(None) && shows(alloc, entries, config, place)?)
+// The ledger is legal, and with one of its entries changed it is illegal at that place.
+fn is_judged(alloc: Global, ledger: &Ledger, config: &Config, number: u64) -> Result<bool, Fail> {
+    let place = Words::new(number.wrapping_add(RUNS)).place(ledger.len() as usize);
+    Ok(
+        first_illegal(alloc, ledger, config) == Ok(None)
+            && shows(alloc, ledger, config, place as u64)?,
+    )
 }
 
 // What some run has shown. A put that each server refused; a unit that went to a waiting rank as it came; a count of
@@ -126,11 +129,17 @@ struct Seen {
 impl Seen {
     fn look(&mut self, entries: &[Entry], servers: u32) {
         self.entries = self.entries.saturating_add(entries.len());
-        self.settles |= entries.windows(2).any(is_settled);
-        self.looks_on |= entries.windows(2).any(is_look_on);
         self.add(Kinds::of(entries), servers);
+        self.look_at_pairs(entries);
         for entry in entries {
             self.look_at(entries, servers, entry);
+        }
+    }
+
+    fn look_at_pairs(&mut self, entries: &[Entry]) {
+        for pair in entries.windows(2) {
+            self.settles |= is_settled(pair);
+            self.looks_on |= is_look_on(pair);
         }
     }
 
@@ -153,12 +162,11 @@ impl Seen {
             id,
         } = entry
         {
-            let asked = entries.iter().position(|e| is_asked(e, *rank, *call));
-            let came = entries.iter().position(|e| is_accepted(e, *id));
+            let asked = place_asked(entries, *rank, *call);
             let far = server.0 != rank.0 % servers.max(1);
             self.tries |= servers > 1 && asked.is_none();
             self.far |= far && asked.is_some();
-            self.hinted |= far && asked.is_some() && asked < came;
+            self.hinted |= far && asked.is_some() && asked < place_accepted(entries, *id);
         }
     }
 
@@ -223,11 +231,31 @@ fn more_if(count: u32, is_so: bool) -> u32 {
     }
 }
 
+// The place of the entry by which the rank asks in this call.
+fn place_asked(entries: &[Entry], by: Rank, number: u64) -> Option<usize> {
+    for (at, entry) in entries.iter().enumerate() {
+        if is_asked(entry, by, number) {
+            return Some(at);
+        }
+    }
+    None
+}
+
 fn is_asked(entry: &Entry, by: Rank, number: u64) -> bool {
     match entry {
         Entry::Asked { rank, call, .. } => *rank == by && *call == number,
         _ => false,
     }
+}
+
+// The place of the entry by which the unit comes.
+fn place_accepted(entries: &[Entry], unit: UnitId) -> Option<usize> {
+    for (at, entry) in entries.iter().enumerate() {
+        if is_accepted(entry, unit) {
+            return Some(at);
+        }
+    }
+    None
 }
 
 fn is_accepted(entry: &Entry, unit: UnitId) -> bool {
@@ -251,10 +279,18 @@ fn is_told(
     ledger: &Ledger,
     seen: &mut Seen,
 ) -> Result<bool, Fail> {
+    Ok(have_finished(alloc, ledger, config, seen)? && is_judged(alloc, ledger, config, number)?)
+}
+
+fn have_finished(
+    alloc: Global,
+    ledger: &Ledger,
+    config: &Config,
+    seen: &mut Seen,
+) -> Result<bool, Fail> {
     let entries = ledger.list(alloc)?;
     seen.look(&entries, config.servers);
-    let told = all_have_finished(&entries, config.ranks);
-    Ok(is_judged(alloc, ledger, &entries, config, number)? && told)
+    Ok(all_have_finished(&entries, config.ranks))
 }
 
 #[test]

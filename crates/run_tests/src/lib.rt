@@ -17,6 +17,8 @@ mod inline;
 #[cfg(test)]
 mod mutants;
 #[cfg(test)]
+mod rows;
+#[cfg(test)]
 mod scenes;
 #[cfg(test)]
 mod scripts;

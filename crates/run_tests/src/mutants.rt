@@ -7,7 +7,6 @@ use bag_ledger::Entry;
 use ledger_checker::first_illegal;
 use packed_ledger::Ledger;
 use std::alloc::Global;
-use std::process::Abort;
 use std::test::Fail;
 
 // A unit, by the rank that put it and the number of its put.
@@ -326,21 +325,28 @@ impl Writer {
     // Rank 0 puts units at two servers, rank 1 gets them all, and then nothing is left to do.
     fn write_long(&mut self) -> Result<(), NoMemory> {
         for call in 0..UNITS {
-            self.write_all(&[
-                Putting(0, call, b"x"),
-                Accepted((call % 2) as u32, (0, call)),
-            ])?;
+            self.write_put(call, (call % 2) as u32)?;
         }
         for call in 0..UNITS {
-            let server = (call % 2) as u32;
-            self.write_all(&[
-                Asked(1, 2 * call, None),
-                Granted(server, 1, 2 * call, (0, call)),
-                Fetching(1, 2 * call + 1, (0, call)),
-                Fetched(server, 1, (0, call)),
-            ])?;
+            self.write_work(call, (call % 2) as u32)?;
         }
         self.write_all(LONG_END)
+    }
+
+    // The unit of this number is put at this server.
+    fn write_put(&mut self, call: u64, server: u32) -> Result<(), NoMemory> {
+        self.write_all(&[Putting(0, call, b"x"), Accepted(server, (0, call))])
+    }
+
+    // Rank 1 gets it.
+    fn write_work(&mut self, call: u64, server: u32) -> Result<(), NoMemory> {
+        let asked = call.saturating_mul(2);
+        self.write_all(&[
+            Asked(1, asked, None),
+            Granted(server, 1, asked, (0, call)),
+            Fetching(1, asked.saturating_add(1), (0, call)),
+            Fetched(server, 1, (0, call)),
+        ])
     }
 }
 
@@ -614,12 +620,18 @@ fn judged(alloc: Global, ledger: &Ledger, base: Base) -> Result<Option<u64>, Fai
 // A ledger, the place of the edit and the edit, and the place where the ledger is then illegal first.
 type Mutant = (Base, u64, Edit, u64);
 
-fn check(rt: &impl Abort, alloc: Global, mutants: &[Mutant]) -> Result<(), Fail> {
-    for (at, (base, place, edit, first)) in mutants.iter().enumerate() {
-        let found = found(alloc, *base, *place, *edit)?;
-        assert!(rt; found == Some(*first), "mutant {at}");
+// Which of the mutants is illegal first at another place than it states, if one is.
+fn other(alloc: Global, mutants: &[Mutant]) -> Result<Option<usize>, Fail> {
+    for (at, mutant) in mutants.iter().enumerate() {
+        if !is_found(alloc, mutant)? {
+            return Ok(Some(at));
+        }
     }
-    Ok(())
+    Ok(None)
+}
+
+fn is_found(alloc: Global, (base, place, edit, first): &Mutant) -> Result<bool, Fail> {
+    Ok(found(alloc, *base, *place, *edit)? == Some(*first))
 }
 
 const BASES: &[Base] = &[
@@ -660,11 +672,6 @@ const GRANTS: &[Mutant] = &[
     (Base::GotElsewhere, 3, Set(Granted(0, 1, 1, (0, 0))), 3),
 ];
 
-#[test]
-fn grants_are_checked(rt: HostRuntime) -> Result<(), Fail> {
-    check(&rt, rt.alloc(), GRANTS)
-}
-
 // No refusal; one twice; one by another charge; a unit that fits; one that is too long.
 const PUTS: &[Mutant] = &[
     (Base::FullServers, 8, Remove, 9),
@@ -674,11 +681,6 @@ const PUTS: &[Mutant] = &[
     (Base::FullServers, 7, Set(Accepted(0, (0, 3))), 7),
 ];
 
-#[test]
-fn puts_are_checked(rt: HostRuntime) -> Result<(), Fail> {
-    check(&rt, rt.alloc(), PUTS)
-}
-
 const IN_VAIN: &[Mutant] = &[
     (Base::GotElsewhere, 5, Remove, 6),
     (Base::GotElsewhere, 3, Remove, 4),
@@ -686,11 +688,6 @@ const IN_VAIN: &[Mutant] = &[
     (Base::GotElsewhere, 4, Set(Tried(2, 0, None)), 4),
     (Base::GotElsewhere, 4, Set(Tried(0, 2, None)), 4),
 ];
-
-#[test]
-fn tries_are_checked(rt: HostRuntime) -> Result<(), Fail> {
-    check(&rt, rt.alloc(), IN_VAIN)
-}
 
 // The common part is freed early; a rank asks while a fetch is due; no fetch of the unit. The common part is fetched
 // elsewhere; another count; a rank finishes while its batch goes on.
@@ -703,11 +700,6 @@ const BATCHES: &[Mutant] = &[
     (Base::BatchOfTwo, 8, Set(Finished(0, 4)), 8),
 ];
 
-#[test]
-fn batches_are_checked(rt: HostRuntime) -> Result<(), Fail> {
-    check(&rt, rt.alloc(), BATCHES)
-}
-
 // The last has another end.
 const EXHAUSTIONS: &[Mutant] = &[
     (Base::Pushed, 6, Insert(Exhausted), 6),
@@ -719,11 +711,6 @@ const EXHAUSTIONS: &[Mutant] = &[
     (Base::Tries, 7, Set(Over(0, 2, End::Exhausted)), 7),
 ];
 
-#[test]
-fn exhaustion_is_checked(rt: HostRuntime) -> Result<(), Fail> {
-    check(&rt, rt.alloc(), EXHAUSTIONS)
-}
-
 // A promise where the unit is; none; a promise withdrawn while the unit travels; one that still stands; a pinned unit left
 // out; a fetch by another rank.
 const PUSHES: &[Mutant] = &[
@@ -734,11 +721,6 @@ const PUSHES: &[Mutant] = &[
     (Base::CancelledPush, 8, Set(Refused(0, (1, 0), 0)), 8),
     (Base::GrantedOnce, 4, Set(Fetching(1, 0, (0, 0))), 4),
 ];
-
-#[test]
-fn pushes_are_checked(rt: HostRuntime) -> Result<(), Fail> {
-    check(&rt, rt.alloc(), PUSHES)
-}
 
 // A unit for the rank itself; one for any; one of the type that is wanted; and looks at other units than those wanted.
 const LOOKS: &[Mutant] = &[
@@ -756,11 +738,6 @@ const LOOKS: &[Mutant] = &[
     (Base::Shelves, 15, Set(Looked(0, 2, 1)), 15),
 ];
 
-#[test]
-fn looks_go_by_type_and_target(rt: HostRuntime) -> Result<(), Fail> {
-    check(&rt, rt.alloc(), LOOKS)
-}
-
 // The second is for rank 1 alone, and the third of the type of the unit.
 const SOFT: &[Mutant] = &[
     (Base::SoftTargets, 3, Set(Looked(0, 2, 0)), 3),
@@ -775,11 +752,6 @@ const SOFT: &[Mutant] = &[
     (Base::SoftTargets, 11, Remove, 12),
 ];
 
-#[test]
-fn soft_targets_let_each_rank_have_the_unit(rt: HostRuntime) -> Result<(), Fail> {
-    check(&rt, rt.alloc(), SOFT)
-}
-
 // A push without its promise, twice; one from elsewhere; a withdrawal without a promise; no promise back. A grant
 // where the unit was; a charge that is not taken off, and one that counts twice.
 const PUSHES_BACK: &[Mutant] = &[
@@ -792,11 +764,6 @@ const PUSHES_BACK: &[Mutant] = &[
     (Base::PushedBack, 13, Set(Refused(1, (1, 0), 60)), 13),
     (Base::PushedBack, 14, Set(Refused(0, (1, 0), 120)), 14),
 ];
-
-#[test]
-fn pushes_back_are_checked(rt: HostRuntime) -> Result<(), Fail> {
-    check(&rt, rt.alloc(), PUSHES_BACK)
-}
 
 // The place of the last grant, and that of the last entry.
 const LAST_GRANT: u64 = 6 * UNITS - 3;
@@ -821,7 +788,25 @@ const LONG: &[Mutant] = &[
     (Base::Long, LAST, Set(Finished(1, 2 * UNITS)), LAST),
 ];
 
+// What each list of mutants shows.
+const LISTS: &[(&str, &[Mutant])] = &[
+    ("grants are checked", GRANTS),
+    ("puts are checked", PUTS),
+    ("tries are checked", IN_VAIN),
+    ("batches are checked", BATCHES),
+    ("exhaustion is checked", EXHAUSTIONS),
+    ("pushes are checked", PUSHES),
+    ("looks go by type and target", LOOKS),
+    ("soft targets let each rank have the unit", SOFT),
+    ("pushes back are checked", PUSHES_BACK),
+    ("long ledgers are checked to their end", LONG),
+];
+
 #[test]
-fn long_ledgers_are_checked_to_their_end(rt: HostRuntime) -> Result<(), Fail> {
-    check(&rt, rt.alloc(), LONG)
+fn an_edit_shows_at_a_stated_place(rt: HostRuntime) -> Result<(), Fail> {
+    for (shows, mutants) in LISTS {
+        let other = other(rt.alloc(), mutants)?;
+        assert!(rt; other.is_none(), "{shows}: mutant {other:?}");
+    }
+    Ok(())
 }

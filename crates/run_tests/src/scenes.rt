@@ -2,14 +2,14 @@
 
 ghost use Rattle.std.specs.Prelude.{◌≡◌};
 
-use adlb_unit::{Actor, Config, End, Payload, Rank, Server, Target, Types, UnitId, WorkType};
-use bag_ledger::{Call, Entry};
+use crate::rows::{Form, ledger_is};
+use crate::stepped::has_left;
+use adlb_unit::{Actor, Config, Payload, Rank, Server, Target, Types, UnitId, WorkType};
+use bag_ledger::Call;
 use core_run::Event;
 use core_world::World;
 use ledger_checker::first_illegal;
-use server_core::LeftUnit;
-use std::alloc::{AllocError, Global};
-use std::fmt::Write;
+use std::alloc::Global;
 use std::test::Fail;
 
 // An event. A letter is handled by the rank or the server of the second number, from that of the first.
@@ -37,14 +37,16 @@ use Does::{
     Across, Down, Fetches, Finishes, Puts, PutsLong, Reserves, ReservesOf, SetsDone, Tries, Up,
 };
 
-// What happens in a run with these numbers of ranks and servers, and the ledger that it leaves, each entry as `row` has
-// it. The number says how many letters are under way at its end.
+// What happens in a run with these numbers of ranks and servers, and the ledger that it leaves, each entry as
+// `Form::Places` has it. The number says how many letters are under way at its end, and the texts what is left then at the
+// first servers, as far as it is asked.
 struct Scene {
     ranks: u32,
     servers: u32,
     events: &'static [Does],
     ledger: &'static str,
     letters: u64,
+    left: &'static [&'static str],
 }
 
 const SCENES: &[Scene] = &[
@@ -63,6 +65,7 @@ const SCENES: &[Scene] = &[
         ],
         ledger: "asked 1; putting 0; accepted 1; granted 1 to 1; ",
         letters: 1,
+        left: &[],
     },
     // The second of two others has a unit; the first keeps the wish, and drops nothing by it.
     Scene {
@@ -81,6 +84,7 @@ const SCENES: &[Scene] = &[
         ],
         ledger: "putting 2; accepted 2; asked 0; granted 2 to 0; ",
         letters: 1,
+        left: &[],
     },
     // No server has one: the rank is idle, and a check is begun.
     Scene {
@@ -96,6 +100,7 @@ const SCENES: &[Scene] = &[
         ],
         ledger: "asked 0; ",
         letters: 1,
+        left: &[],
     },
     // While the third server is asked, the second hints: it is asked again after the third.
     Scene {
@@ -117,6 +122,7 @@ const SCENES: &[Scene] = &[
         ],
         ledger: "asked 0; putting 1; accepted 1; granted 1 to 0; ",
         letters: 1,
+        left: &[],
     },
     // A hint for a rank that was granted a unit meanwhile comes too late, and nobody is asked.
     Scene {
@@ -139,6 +145,7 @@ const SCENES: &[Scene] = &[
         ],
         ledger: "asked 1; putting 0; accepted 1; granted 1 to 1; putting 0; accepted 1; putting 0; accepted 0; ",
         letters: 3,
+        left: &[],
     },
     // A unit that is another rank's alone, or of another type, is not granted to a rank that is asked for.
     Scene {
@@ -157,6 +164,7 @@ const SCENES: &[Scene] = &[
         ],
         ledger: "putting 0; accepted 0; putting 0; accepted 1; asked 3; ",
         letters: 1,
+        left: &[],
     },
     // A unit for which no rank waits takes off both wishes, that of the rank which it names before others first: it is asked for first.
     Scene {
@@ -184,6 +192,7 @@ const SCENES: &[Scene] = &[
         ],
         ledger: "asked 1; asked 3; putting 0; accepted 0; granted 0 to 1; ",
         letters: 1,
+        left: &[],
     },
     // Of two idle ranks the one that the target names before others is granted.
     Scene {
@@ -201,6 +210,7 @@ const SCENES: &[Scene] = &[
         ],
         ledger: "asked 1; asked 2; putting 0; accepted 0; granted 0 to 2; ",
         letters: 0,
+        left: &[],
     },
     // Where that one does not wait, the first that came is.
     Scene {
@@ -218,6 +228,7 @@ const SCENES: &[Scene] = &[
         ],
         ledger: "asked 1; asked 2; putting 0; accepted 0; granted 0 to 1; ",
         letters: 0,
+        left: &[],
     },
     // Room is promised at the other server, but the unit is granted meanwhile: the push is taken back. The charge of server 1 is 0
     // again, and that of server 0 stays until the fetch.
@@ -243,6 +254,7 @@ const SCENES: &[Scene] = &[
         ledger: "putting 0; accepted 0; promised 1; asked 0; granted 0 to 0; withdrawn 1; putting 1; refused 1 by 0; \
             refused 0 by 60; rejected 1; ",
         letters: 1,
+        left: &[],
     },
     // A push whose unit is fetched meanwhile.
     Scene {
@@ -264,6 +276,7 @@ const SCENES: &[Scene] = &[
         ],
         ledger: "putting 0; accepted 0; asked 0; granted 0 to 0; fetching 0; fetched 0; promised 1; withdrawn 1; ",
         letters: 1,
+        left: &[],
     },
     // The first push of server 2 goes to server 0, and its second to server 1.
     Scene {
@@ -289,6 +302,7 @@ const SCENES: &[Scene] = &[
         ledger: "putting 2; accepted 2; promised 0; left 2 to 0; arrived 0; putting 1; accepted 1; putting 1; accepted 2; \
             promised 1; left 2 to 1; arrived 1; ",
         letters: 2,
+        left: &[],
     },
     // Each server is full and refuses the other's push. After the next put one begins again, and there is room.
     Scene {
@@ -320,6 +334,7 @@ const SCENES: &[Scene] = &[
         ledger: "putting 0; accepted 0; putting 1; accepted 1; asked 1; granted 1 to 1; fetching 1; fetched 1; putting 1; \
             accepted 0; promised 1; left 0 to 1; arrived 1; ",
         letters: 2,
+        left: &[],
     },
     // A unit moves to the other server, and back as that one is pressed.
     Scene {
@@ -342,6 +357,7 @@ const SCENES: &[Scene] = &[
         ledger: "putting 0; accepted 0; promised 1; left 0 to 1; arrived 1; putting 1; accepted 1; promised 0; left 1 to 0; \
             arrived 0; ",
         letters: 2,
+        left: &[],
     },
     // Rank 1 is idle when rank 0 puts a unit at the other server, which hints: the home asks again, and the unit is granted there.
     // Rank 0 then finds none at either server.
@@ -369,6 +385,7 @@ const SCENES: &[Scene] = &[
         ],
         ledger: "asked 1; putting 0; accepted 0; granted 0 to 1; tried 0; looked 0; looked 1; no current 0; ",
         letters: 0,
+        left: &[],
     },
     // Rank 0 says that the problem is done: the rank that waits at the other server is told, and so is each later call.
     Scene {
@@ -392,6 +409,7 @@ const SCENES: &[Scene] = &[
         ],
         ledger: "asked 1; done 0; no more 1; putting 0; no more 0; asked 0; no more 0; ",
         letters: 1,
+        left: &[],
     },
     // A rank for which another server is asked is told only once that server has answered.
     Scene {
@@ -411,6 +429,7 @@ const SCENES: &[Scene] = &[
         ],
         ledger: "asked 1; done 0; no more 1; ",
         letters: 0,
+        left: &[],
     },
     // One rank looks at each of three servers, before and after it says that the problem is done.
     Scene {
@@ -438,6 +457,7 @@ const SCENES: &[Scene] = &[
         ],
         ledger: "tried 0; looked 0; looked 1; looked 2; no current 0; done 0; tried 0; no more 0; putting 0; no more 0; ",
         letters: 4,
+        left: &[],
     },
     // All ranks wait while a unit travels: two checks fail, since its server is busy, and the third finds that all work is used up.
     Scene {
@@ -474,6 +494,10 @@ const SCENES: &[Scene] = &[
         ],
         ledger: "asked 0; putting 1; accepted 1; asked 1; promised 0; left 1 to 0; arrived 0; exhausted; used up 0; used up 1; ",
         letters: 0,
+        left: &[
+            "[LeftUnit { id: UnitId { rank: Rank(1), number: 0 }, server: Server(0), pinned: None }]",
+            "[]",
+        ],
     },
     // Of three servers the last has a push that is open as the token comes: the check fails. The next one finds that all is used up.
     Scene {
@@ -521,6 +545,7 @@ const SCENES: &[Scene] = &[
         ledger: "putting 2; accepted 2; asked 0; asked 1; asked 2; promised 0; left 2 to 0; arrived 0; exhausted; used up 0; \
             used up 1; used up 2; ",
         letters: 5,
+        left: &[],
     },
     // A hint is under way for a unit that fits rank 0 as the token goes round: the check fails where the unit is, and rank 0 gets it.
     Scene {
@@ -560,64 +585,71 @@ const SCENES: &[Scene] = &[
         ],
         ledger: "asked 1; asked 0; putting 2; accepted 1; asked 2; granted 1 to 0; ",
         letters: 5,
+        left: &[],
     },
 ];
 
 fn event(alloc: Global, does: Does) -> Result<Event, Fail> {
-    Ok(match does {
-        Puts(rank, kind, target) => Event::Call(Rank(rank), put(alloc, kind, target)?),
-        PutsLong(rank, size, prio) => Event::Call(Rank(rank), put_long(alloc, size, prio)?),
-        Fetches(rank, by, number) => {
-            let id = UnitId {
-                rank: Rank(by),
-                number,
-            };
-            Event::Call(Rank(rank), Call::Fetch { id })
-        }
-        Reserves(rank) => reserve(rank, Types::any()),
-        ReservesOf(rank, kind) => {
-            let Ok(types) = Types::list(&[WorkType(kind)]) else {
-                return Err("types".into());
-            };
-            reserve(rank, types)
-        }
-        Tries(rank) => Event::Call(
-            Rank(rank),
-            Call::Try {
-                types: Types::any(),
-            },
-        ),
-        SetsDone(rank) => Event::Call(Rank(rank), Call::SetDone),
-        Finishes(rank) => Event::Call(Rank(rank), Call::Finish),
-        Up(rank, server) => Event::Deliver(a_rank(rank), a_server(server)),
-        Across(from, to) => Event::Deliver(a_server(from), a_server(to)),
-        Down(server, rank) => Event::Deliver(a_server(server), a_rank(rank)),
-    })
+    match does {
+        Puts(rank, kind, target) => put(alloc, rank, kind, target),
+        PutsLong(rank, size, prio) => put_long(alloc, rank, size, prio),
+        Fetches(rank, by, number) => Ok(fetch(rank, by, number)),
+        Reserves(rank) => Ok(reserve(rank, Types::any())),
+        ReservesOf(rank, kind) => reserve_of(rank, kind),
+        Tries(rank) => Ok(try_once(rank)),
+        SetsDone(rank) => Ok(Event::Call(Rank(rank), Call::SetDone)),
+        Finishes(rank) => Ok(Event::Call(Rank(rank), Call::Finish)),
+        Up(rank, server) => Ok(Event::Deliver(a_rank(rank), a_server(server))),
+        Across(from, to) => Ok(Event::Deliver(a_server(from), a_server(to))),
+        Down(server, rank) => Ok(Event::Deliver(a_server(server), a_rank(rank))),
+    }
 }
 
-fn put(alloc: Global, kind: u32, target: Target) -> Result<Call, Fail> {
-    Ok(Call::Put {
+fn put(alloc: Global, rank: u32, kind: u32, target: Target) -> Result<Event, Fail> {
+    let body = Payload::copy(alloc, b"hello")?;
+    Ok(put_of(rank, kind, 0, target, body))
+}
+
+fn put_long(alloc: Global, rank: u32, size: usize, prio: i32) -> Result<Event, Fail> {
+    let bytes = vec![in alloc; b'x'; size]?;
+    Ok(put_of(rank, 1, prio, Target::Any, Payload::from_vec(bytes)))
+}
+
+/// The rank puts this unit.
+pub(crate) fn put_of(rank: u32, kind: u32, prio: i32, target: Target, body: Payload) -> Event {
+    let call = Call::Put {
         kind: WorkType(kind),
-        prio: 0,
+        prio,
         target,
         answer: None,
-        body: Payload::copy(alloc, b"hello")?,
-    })
+        body,
+    };
+    Event::Call(Rank(rank), call)
 }
 
-fn put_long(alloc: Global, size: usize, prio: i32) -> Result<Call, Fail> {
-    let bytes = vec![in alloc; b'x'; size]?;
-    Ok(Call::Put {
-        kind: WorkType(1),
-        prio,
-        target: Target::Any,
-        answer: None,
-        body: Payload::from_vec(bytes),
-    })
+/// The rank fetches the unit of this number, which the rank of the second number put.
+pub(crate) fn fetch(rank: u32, by: u32, number: u64) -> Event {
+    let id = UnitId {
+        rank: Rank(by),
+        number,
+    };
+    Event::Call(Rank(rank), Call::Fetch { id })
 }
 
-fn reserve(rank: u32, types: Types) -> Event {
+/// The rank reserves a unit of these types.
+pub(crate) fn reserve(rank: u32, types: Types) -> Event {
     Event::Call(Rank(rank), Call::Reserve { types })
+}
+
+fn reserve_of(rank: u32, kind: u32) -> Result<Event, Fail> {
+    let types = Types::list(&[WorkType(kind)])?;
+    Ok(reserve(rank, types))
+}
+
+/// The rank tries for a unit of any type.
+pub(crate) fn try_once(rank: u32) -> Event {
+    let types = Types::any();
+    Event::Call(Rank(rank), Call::Try { types })
 }
 
 fn a_rank(number: u32) -> Actor {
@@ -626,60 +658,6 @@ fn a_rank(number: u32) -> Actor {
 
 fn a_server(number: u32) -> Actor {
     Actor::Server(Server(number))
-}
-
-// The rank of an entry, or its server; of a grant both, of a refusal the charge, and of a unit that leaves where it goes.
-fn add_row(rows: &mut String, entry: &Entry) -> Result<(), AllocError> {
-    match entry {
-        Entry::Granted { server, rank, .. } => {
-            write!(rows, "granted {} to {}; ", server.0, rank.0)
-        }
-        Entry::Refused { server, used, .. } => write!(rows, "refused {} by {used}; ", server.0),
-        Entry::Left { server, to, .. } => write!(rows, "left {} to {}; ", server.0, to.0),
-        Entry::Exhausted => write!(rows, "exhausted; "),
-        other => {
-            let (name, number) = named(other);
-            write!(rows, "{name} {number}; ")
-        }
-    }
-}
-
-// What an entry is called that has one number, and that number.
-fn named(entry: &Entry) -> (&'static str, u32) {
-    match entry {
-        Entry::Putting { rank, .. } => ("putting", rank.0),
-        Entry::Asked { rank, .. } => ("asked", rank.0),
-        Entry::Accepted { server, .. } => ("accepted", server.0),
-        Entry::Fetching { rank, .. } => ("fetching", rank.0),
-        Entry::Fetched { server, .. } => ("fetched", server.0),
-        Entry::Rejected { rank, .. } => ("rejected", rank.0),
-        Entry::Tried { rank, .. } => ("tried", rank.0),
-        Entry::Looked { server, .. } => ("looked", server.0),
-        Entry::NoCurrent { rank, .. } => ("no current", rank.0),
-        Entry::Promised { server, .. } => ("promised", server.0),
-        Entry::Arrived { server, .. } => ("arrived", server.0),
-        Entry::Withdrawn { server, .. } => ("withdrawn", server.0),
-        Entry::Done { rank, .. } => ("done", rank.0),
-        Entry::Over {
-            rank,
-            end: End::Exhausted,
-            ..
-        } => ("used up", rank.0),
-        Entry::Over {
-            rank,
-            end: End::NoMoreWork,
-            ..
-        } => ("no more", rank.0),
-        Entry::Finished { rank, .. } => ("finished", rank.0),
-        _ => ("another entry", 0),
-    }
-}
-
-fn add_rows(rows: &mut String, entries: &[Entry]) -> Result<(), Fail> {
-    for entry in entries {
-        add_row(rows, entry)?;
-    }
-    Ok(())
 }
 
 // How many letters are under way in the world.
@@ -698,126 +676,62 @@ fn letters(world: &World, ranks: u32, servers: u32) -> u64 {
     letters
 }
 
-// The place of the first event that the world refuses, and none once all have happened.
-fn refused_at(alloc: Global, world: &mut World, events: &[Does]) -> Result<Option<usize>, Fail> {
-    for (at, does) in events.iter().enumerate() {
-        if world.apply(event(alloc, *does)?).is_err() {
-            return Ok(Some(at));
+fn happens(alloc: Global, world: &mut World, does: Does) -> Result<bool, Fail>
+    ensures { world.new.world.config ≡ world.old.world.config }
+{
+    let event = event(alloc, does)?;
+    Ok(world.apply(event).is_ok())
+}
+
+// Each of the events can happen.
+fn all_happen(alloc: Global, world: &mut World, events: &[Does]) -> Result<bool, Fail>
+    ensures { world.new.world.config ≡ world.old.world.config }
+{
+    for does in events {
+        if !happens(alloc, world, *does)? {
+            return Ok(false);
         }
     }
-    Ok(None)
+    Ok(true)
 }
 
-// The ledger of the world, if it is legal, and the letters that are under way.
-fn left_by(alloc: Global, world: &World, config: Config) -> Result<String, Fail> {
-    if first_illegal(alloc, world.ledger(), &config) != Ok(None) {
-        return Err("an illegal ledger".into());
+// At the first servers of the world, of this number, these units are left.
+fn are_left(alloc: Global, world: &World, servers: u32, left: &[&str]) -> Result<bool, Fail>
+    requires { world.now.world.config.servers ≡ servers }
+{
+    let mut number: u32 = 0;
+    for wanted in left {
+        if !has_left(alloc, world, servers, number, wanted)? {
+            return Ok(false);
+        }
+        number = number.saturating_add(1);
     }
-    let mut rows = String::new(alloc);
-    add_rows(&mut rows, &world.ledger().list(alloc)?)?;
-    let letters = letters(world, config.ranks, config.servers);
-    Ok(format!(in alloc; "{rows}{letters}")?)
+    Ok(true)
 }
 
-// What these events leave in the world, if all can happen.
-fn played(
-    alloc: Global,
-    world: &mut World,
-    config: Config,
-    events: &[Does],
-) -> Result<String, Fail> {
-    match refused_at(alloc, world, events)? {
-        Some(at) => Ok(format!(in alloc; "event {at} was refused")?),
-        None => left_by(alloc, world, config),
-    }
+// What happens in the scene leaves what it says, with a legal ledger.
+fn leaves(alloc: Global, world: &mut World, config: Config, scene: &Scene) -> Result<bool, Fail>
+    requires { world.old.world.config ≡ config }
+{
+    Ok(
+        all_happen(alloc, world, scene.events)?
+            && first_illegal(alloc, world.ledger(), &config) == Ok(None)
+            && letters(world, config.ranks, config.servers) == scene.letters
+            && ledger_is(alloc, world.ledger(), Form::Places, scene.ledger)?
+            && are_left(alloc, world, config.servers, scene.left)?,
+    )
 }
 
-// The ledger of a scene, if it is legal, and the letters that are under way at its end.
-fn shown(alloc: Global, scene: &Scene) -> Result<String, Fail> {
+fn is_so(alloc: Global, scene: &Scene) -> Result<bool, Fail> {
     let config = Config::new(scene.ranks, scene.servers, 64)?;
     let mut world = World::new(alloc, config)?;
-    played(alloc, &mut world, config, scene.events)
-}
-
-// Where all work is found used up while a unit is left: at server 0, not pinned, and nothing at server 1.
-const LEFT: usize = 18;
-
-// A world that is stepped, whose configuration stays.
-#[derive(Drop)]
-struct Stepped {
-    world: World,
-    config: Config,
-    ghost stepped_is: { world.world.config ≡ config },
-}
-
-impl Stepped {
-    fn apply(&mut self, event: Event) -> Result<(), Fail> {
-        if self.world.apply(event).is_err() {
-            return Err("an event was refused".into());
-        }
-        Ok(())
-    }
-
-    fn go_through(&mut self, alloc: Global, events: &[Does]) -> Result<(), Fail> {
-        for does in events {
-            self.apply(event(alloc, *does)?)?;
-        }
-        Ok(())
-    }
-
-    // The scene leaves one unit at server 0, and nothing at server 1.
-    fn leaves(&mut self, alloc: Global) -> Result<bool, Fail> {
-        self.go_through(alloc, SCENES[LEFT].events)?;
-        Ok(self.has_left(0, 1)? && self.has_left(1, 0)?)
-    }
-
-    // The units at the server of this number.
-    fn left(&self, number: u32) -> Result<Vec<LeftUnit>, Fail> {
-        if number >= self.config.servers {
-            return Err("no such server".into());
-        }
-        Ok(self.world.left(Server(number))?)
-    }
-
-    // This number of units is at the server of this number, each one of rank 1, at server 0 and not pinned.
-    fn has_left(&self, number: u32, count: usize) -> Result<bool, Fail> {
-        let left = self.left(number)?;
-        let are_as_put = left.iter().all(|unit| unit.id.rank.0 == 1
-            && unit.server.0 == 0
-            && unit.pinned.is_none());
-        Ok(left.len() == count && are_as_put)
-    }
-}
-
-// After the scene in which a unit is left, it is at its server.
-fn left_is_told(alloc: Global) -> Result<bool, Fail> {
-    let config = Config::new(2, 2, 64)?;
-    let mut stepped = Stepped {
-        world: World::new(alloc, config)?,
-        config,
-    };
-    stepped.leaves(alloc)
-}
-
-#[test]
-fn what_is_left_is_told(rt: HostRuntime) -> Result<(), Fail> {
-    assert!(rt; left_is_told(rt.alloc())?);
-    Ok(())
-}
-
-// The scene leaves what it says.
-fn is_shown(alloc: Global, scene: &Scene) -> Result<bool, Fail> {
-    let given = shown(alloc, scene)?;
-    let Some(letters) = given.as_str().strip_prefix(scene.ledger) else {
-        return Ok(false);
-    };
-    Ok(letters.parse::<u64>() == Ok(scene.letters))
+    leaves(alloc, &mut world, config, scene)
 }
 
 #[test]
 fn homes_ask_and_units_move(rt: HostRuntime) -> Result<(), Fail> {
     for (at, scene) in SCENES.iter().enumerate() {
-        assert!(rt; is_shown(rt.alloc(), scene)?, "scene {at}");
+        assert!(rt; is_so(rt.alloc(), scene)?, "scene {at}");
     }
     Ok(())
 }

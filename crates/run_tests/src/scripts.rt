@@ -25,10 +25,11 @@ enum Choice {
     Calls(Rank),
 }
 
-// What a rank was told.
+// What a rank has done, and what it was told.
 #[derive(Clone, Copy)]
-struct Told {
-    // How many calls were answered.
+struct Caller {
+    // How many calls it began, and how many were answered.
+    begun: u64,
     answers: u64,
     // The unit that the last of them was granted.
     granted: Option<UnitId>,
@@ -36,10 +37,11 @@ struct Told {
     finished: bool,
 }
 
-impl Told {
+impl Caller {
     // Nothing yet.
-    fn nothing() -> Told {
-        Told {
+    fn new() -> Caller {
+        Caller {
+            begun: 0,
             answers: 0,
             granted: None,
             ended: false,
@@ -47,110 +49,137 @@ impl Told {
         }
     }
 
-    // One more call was answered.
-    fn hear(&mut self, answer: &Answer) {
+    // It has heard the answer of each of its calls, and has not finished.
+    fn may_call(&self) -> bool {
+        self.begun == self.answers && !self.finished
+    }
+
+    // One more call is begun; it is one of those at random.
+    fn begins_at_random(&mut self) -> bool {
+        let made = self.begun;
+        self.begun = made.saturating_add(1);
+        made < CALLS && !self.ended
+    }
+
+    // One more call was answered, the last if it finishes.
+    fn hear(&mut self, answer: &Answer, finishes: bool) {
         self.answers = self.answers.saturating_add(1);
-        self.granted = match answer {
-            Answer::Granted(note) => Some(note.id),
-            _ => None,
-        };
+        self.granted = granted(answer);
         self.ended = self.ended || matches!(answer, Answer::Ended(_));
+        self.finished = finishes;
     }
 }
 
-// A run that goes on, with how many calls each rank began, and what it was told.
+fn granted(answer: &Answer) -> Option<UnitId> {
+    match answer {
+        Answer::Granted(note) => Some(note.id),
+        _ => None,
+    }
+}
+
+// The ranks of a run, and the numbers by which events are chosen.
+#[derive(Drop)]
+struct Callers {
+    ranks: Vec<Caller>,
+    words: Words,
+}
+
+impl Callers {
+    // The rank that calls or hears of its call has its answer, if there is one.
+    fn note(&mut self, number: usize, finishes: bool, answer: Option<Answer>) {
+        if let (Some(caller), Some(answer)) = (self.ranks.get_mut(number), answer) {
+            caller.hear(&answer, finishes);
+        }
+    }
+}
+
+// A run that goes on.
 #[derive(Drop)]
 struct GoingRun {
     world: World,
     config: Config,
-    begun: Vec<u64>,
-    told: Vec<Told>,
-    words: Words,
     ghost run_is: { world.world.config ≡ config },
 }
 
 /// The world in which nothing is enabled any more, after events that this number chooses, and in which each server has ended.
 pub(crate) fn driven(alloc: Global, config: Config, number: u64) -> Result<World, Fail> {
-    let mut run = GoingRun {
-        begun: vec![in alloc; 0; config.ranks as usize]?,
-        told: vec![in alloc; Told::nothing(); config.ranks as usize]?,
-        world: World::new(alloc, config)?,
-        config,
+    let mut callers = Callers {
+        ranks: vec![in alloc; Caller::new(); config.ranks as usize]?,
         words: Words::new(number),
     };
-    run.goes_to_its_end(alloc)?;
+    driven_by(alloc, config, &mut callers)
+}
+
+fn driven_by(alloc: Global, config: Config, callers: &mut Callers) -> Result<World, Fail> {
+    let mut run = GoingRun {
+        world: World::new(alloc, config)?,
+        config,
+    };
+    run.goes_to_its_end(alloc, callers)?;
     Ok(run.world)
 }
 
 impl GoingRun {
     // Events until nothing is enabled, when each server has ended.
-    fn goes_to_its_end(&mut self, alloc: Global) -> Result<(), Fail> {
+    fn goes_to_its_end(&mut self, alloc: Global, callers: &mut Callers) -> Result<(), Fail> {
         for _ in 0..EVENTS {
-            if !self.goes_on(alloc)? {
-                return if self.all_have_ended() {
-                    Ok(())
-                } else {
-                    Err("a server has not ended".into())
-                };
+            if !self.goes_on(alloc, callers)? {
+                return self.must_have_ended();
             }
         }
         Err("the run goes on".into())
     }
 
+    fn must_have_ended(&self) -> Result<(), Fail> {
+        if self.all_have_ended() {
+            Ok(())
+        } else {
+            Err("a server has not ended".into())
+        }
+    }
+
     // One event more; none if nothing is enabled.
-    fn goes_on(&mut self, alloc: Global) -> Result<bool, Fail> {
-        let Some(event) = self.choose(alloc)? else {
+    fn goes_on(&mut self, alloc: Global, callers: &mut Callers) -> Result<bool, Fail> {
+        let Some(choice) = self.chosen(alloc, callers)? else {
             return Ok(false);
         };
-        let caller = caller(&event);
+        let event = self.event(alloc, callers, choice)?;
         let finishes = matches!(event, Event::Call(_, Call::Finish));
         match self.world.apply(event) {
             Ok(answer) => {
-                self.note(caller, finishes, &answer);
+                callers.note(rank_of(choice), finishes, answer);
                 Ok(true)
             }
             Err(_) => Err("an enabled event was refused".into()),
         }
     }
 
-    // The rank that calls or hears of its call has finished, or has its answer, if there is one.
-    fn note(&mut self, caller: Option<Rank>, finishes: bool, answer: &Option<Answer>) {
-        let Some(Rank(number)) = caller else {
-            return;
-        };
-        if let (Some(told), Some(answer)) = (self.told.get_mut(number as usize), answer) {
-            told.hear(answer);
-            told.finished = finishes;
-        }
-    }
-
-    // One of the events that are enabled; `None` if there is no such event.
-    fn choose(&mut self, alloc: Global) -> Result<Option<Event>, Fail> {
-        match self.chosen(alloc)? {
-            None => Ok(None),
-            Some(Choice::Delivers(from, to)) => Ok(Some(Event::Deliver(from, to))),
-            Some(Choice::Calls(rank)) => {
-                let call = self.next_call(alloc, rank)?;
-                Ok(Some(Event::Call(rank, call)))
+    fn event(&self, alloc: Global, callers: &mut Callers, choice: Choice) -> Result<Event, Fail> {
+        match choice {
+            Choice::Delivers(from, to) => Ok(Event::Deliver(from, to)),
+            Choice::Calls(rank) => {
+                let call = self.next_call(alloc, callers, rank)?;
+                Ok(Event::Call(rank, call))
             }
         }
     }
 
-    fn chosen(&mut self, alloc: Global) -> Result<Option<Choice>, Fail> {
-        let choices = self.choices(alloc)?;
-        Ok(choices.get(self.words.place(choices.len())).copied())
+    // One of the events that are enabled; `None` if there is no such event.
+    fn chosen(&self, alloc: Global, callers: &mut Callers) -> Result<Option<Choice>, Fail> {
+        let choices = self.choices(alloc, &callers.ranks)?;
+        Ok(choices.get(callers.words.place(choices.len())).copied())
     }
 
     // All that can happen.
-    fn choices(&self, alloc: Global) -> Result<Vec<Choice>, Fail> {
+    fn choices(&self, alloc: Global, ranks: &[Caller]) -> Result<Vec<Choice>, Fail> {
         let mut choices = Vec::new(alloc);
-        self.add_all(&mut choices)?;
+        self.add_all(&mut choices, ranks)?;
         Ok(choices)
     }
 
-    fn add_all(&self, choices: &mut Vec<Choice>) -> Result<(), Fail> {
+    fn add_all(&self, choices: &mut Vec<Choice>, ranks: &[Caller]) -> Result<(), Fail> {
         self.add_deliveries(choices)?;
-        self.add_calls(choices)
+        add_calls(choices, ranks)
     }
 
     // Each list of letters gives its front.
@@ -161,16 +190,6 @@ impl GoingRun {
             let to = self.actor(place % actors.max(1));
             if self.world.waiting(from, to) > 0 && !self.has_ended(to) {
                 choices.push(Choice::Delivers(from, to))?;
-            }
-        }
-        Ok(())
-    }
-
-    // Each rank that awaits no answer calls.
-    fn add_calls(&self, choices: &mut Vec<Choice>) -> Result<(), Fail> {
-        for number in 0..self.config.ranks {
-            if self.may_call(Rank(number)) {
-                choices.push(Choice::Calls(Rank(number)))?;
             }
         }
         Ok(())
@@ -205,49 +224,39 @@ impl GoingRun {
         }
     }
 
-    // The rank has heard the answer of each of its calls, and has not finished.
-    fn may_call(&self, rank: Rank) -> bool {
-        let begun = self.begun.get(rank.0 as usize).copied();
-        match self.told.get(rank.0 as usize) {
-            Some(told) => begun == Some(told.answers) && !told.finished,
-            None => false,
-        }
-    }
-
     // The rank's next call: at random, and at the last such that it ends.
-    fn next_call(&mut self, alloc: Global, rank: Rank) -> Result<Call, Fail> {
+    fn next_call(&self, alloc: Global, callers: &mut Callers, rank: Rank) -> Result<Call, Fail> {
         if rank.0 >= self.config.ranks {
             return Err("no such rank".into());
         }
-        let at_random = may_begin(&mut self.begun, rank);
-        let Some(told) = self.told.get(rank.0 as usize).copied() else {
+        let open = self.world.batch_open(rank);
+        let Some(caller) = callers.ranks.get_mut(rank.0 as usize) else {
             return Err("no such rank".into());
         };
-        let open = self.world.batch_open(rank);
-        if at_random && !told.ended {
-            call(alloc, &mut self.words, self.config, told.granted, open)
+        if caller.begins_at_random() {
+            call(alloc, &mut callers.words, self.config, caller.granted, open)
         } else {
-            Ok(last_call(told.ended, open))
+            Ok(last_call(caller.ended, open))
         }
     }
 }
 
-// One more call of the rank is begun, which is one of those at random.
-fn may_begin(begun: &mut [u64], rank: Rank) -> bool {
-    match begun.get_mut(rank.0 as usize) {
-        Some(count) => {
-            let made = *count;
-            *count = made.saturating_add(1);
-            made < CALLS
+// Each rank that awaits no answer calls.
+fn add_calls(choices: &mut Vec<Choice>, ranks: &[Caller]) -> Result<(), Fail> {
+    let mut number: u32 = 0;
+    for caller in ranks {
+        if caller.may_call() {
+            choices.push(Choice::Calls(Rank(number)))?;
         }
-        None => false,
+        number = number.saturating_add(1);
     }
+    Ok(())
 }
 
-// The rank whose event it is, if it is one of a rank.
-fn caller(event: &Event) -> Option<Rank> {
-    match event {
-        Event::Call(rank, _) | Event::Deliver(_, Actor::Rank(rank)) => Some(*rank),
-        Event::Deliver(_, Actor::Server(_)) => None,
+// The number of the rank whose event it is, or one that no rank has.
+fn rank_of(choice: Choice) -> usize {
+    match choice {
+        Choice::Calls(rank) | Choice::Delivers(_, Actor::Rank(rank)) => rank.0 as usize,
+        Choice::Delivers(_, Actor::Server(_)) => usize::MAX,
     }
 }

@@ -2,13 +2,13 @@
 
 ghost use Rattle.std.specs.Prelude.{◌≡◌};
 
-use adlb_unit::{Actor, Config, Payload, Rank, Server, Target, Types, UnitId, WorkType};
-use bag_ledger::{Answer, Call, Entry};
+use crate::rows::{Form, ledger_is};
+use crate::scenes::{fetch, put_of, reserve, try_once};
+use adlb_unit::{Actor, Config, Payload, Rank, Server, Target, Types, WorkType};
+use bag_ledger::{Answer, Call};
 use core_run::Event;
 use core_world::{ApplyFault, World};
 use std::alloc::Global;
-use std::fmt::Write;
-use std::process::Abort;
 use std::test::Fail;
 
 const RANK: Actor = Actor::Rank(Rank(0));
@@ -57,6 +57,13 @@ const FILLS: &[Does] = &[
     Does::Delivers(THIRD, RANK),
 ];
 
+// What a scene shows, how many servers its world has, and what each of its lines gives.
+struct Scene {
+    shows: &'static str,
+    servers: u32,
+    lines: &'static [(Line<'static>, &'static str)],
+}
+
 // A line of a scene: what is done with the world, or what is asked of it.
 #[derive(Clone, Copy)]
 enum Line<'a> {
@@ -74,7 +81,7 @@ enum Line<'a> {
     Body,
     // What its last call, a count, was told.
     Info,
-    // The ledger, each entry as `row` has it.
+    // The ledger, each entry as `Form::Numbers` has it.
     Ledger,
     // The units that are left at the server of this number.
     Left(u32),
@@ -82,17 +89,15 @@ enum Line<'a> {
 
 fn event(alloc: Global, does: Does) -> Result<Event, Fail> {
     match does {
-        Does::Puts(size) => put(alloc, size),
-        Does::PutsByte(byte) => put_one(alloc, byte, 0),
-        Does::PutsAt(prio) => put_one(alloc, b'a', prio),
+        Does::Puts(size) => put(alloc, 7, size, 0),
+        Does::PutsByte(byte) => put(alloc, byte, 1, 0),
+        Does::PutsAt(prio) => put(alloc, b'a', 1, prio),
         Does::Begins(bytes) => begin(alloc, &bytes),
         Does::Ends => Ok(made(Call::EndBatch)),
-        Does::Reserves => Ok(reserve()),
-        Does::Tries => Ok(try_once()),
-        Does::Fetches(number) => Ok(fetch(number)),
-        Does::Counts(kind) => Ok(made(Call::Count {
-            kind: WorkType(kind),
-        })),
+        Does::Reserves => Ok(reserve(0, Types::any())),
+        Does::Tries => Ok(try_once(0)),
+        Does::Fetches(number) => Ok(fetch(0, 0, number)),
+        Does::Counts(kind) => Ok(count(WorkType(kind))),
         Does::Finishes => Ok(made(Call::Finish)),
         Does::Delivers(from, to) => Ok(Event::Deliver(from, to)),
     }
@@ -103,14 +108,10 @@ fn made(call: Call) -> Event {
     Event::Call(Rank(0), call)
 }
 
-fn put(alloc: Global, size: usize) -> Result<Event, Fail> {
-    let bytes = vec![in alloc; 7_u8; size]?;
-    Ok(made(put_of(Payload::from_vec(bytes), 0)))
-}
-
-fn put_one(alloc: Global, byte: u8, prio: i32) -> Result<Event, Fail> {
-    let body = Payload::copy(alloc, &[byte])?;
-    Ok(made(put_of(body, prio)))
+// It puts this byte so many times.
+fn put(alloc: Global, byte: u8, size: usize, prio: i32) -> Result<Event, Fail> {
+    let bytes = vec![in alloc; byte; size]?;
+    Ok(put_of(0, 1, prio, Target::Any, Payload::from_vec(bytes)))
 }
 
 fn begin(alloc: Global, bytes: &[u8]) -> Result<Event, Fail> {
@@ -118,35 +119,8 @@ fn begin(alloc: Global, bytes: &[u8]) -> Result<Event, Fail> {
     Ok(made(Call::BeginBatch { common }))
 }
 
-fn reserve() -> Event {
-    made(Call::Reserve {
-        types: Types::any(),
-    })
-}
-
-fn try_once() -> Event {
-    made(Call::Try {
-        types: Types::any(),
-    })
-}
-
-fn put_of(body: Payload, prio: i32) -> Call {
-    Call::Put {
-        kind: WorkType(1),
-        prio,
-        target: Target::Any,
-        answer: None,
-        body,
-    }
-}
-
-fn fetch(number: u64) -> Event {
-    made(Call::Fetch {
-        id: UnitId {
-            rank: Rank(0),
-            number,
-        },
-    })
+fn count(kind: WorkType) -> Event {
+    made(Call::Count { kind })
 }
 
 fn events(alloc: Global, all: &[Does]) -> Result<Vec<Event>, Fail> {
@@ -176,80 +150,7 @@ fn is_that(event: &Event, does: Does) -> bool {
     }
 }
 
-// What an entry is, the call, unit or batch and the server that it names, and its bytes or the bytes used.
-fn row(entry: &Entry) -> (&'static str, u64, u32, u64) {
-    match entry {
-        Entry::Putting { call, body, .. } => ("putting", *call, 0, body.len() as u64),
-        Entry::Accepted { server, id } => ("accepted", id.number, server.0, 0),
-        Entry::Refused { server, id, used } => ("refused", id.number, server.0, *used),
-        Entry::Rejected { call, .. } => ("rejected", *call, 0, 0),
-        Entry::Asked { call, .. } => ("asked", *call, 0, 0),
-        Entry::Granted { server, id, .. } => ("granted", id.number, server.0, 0),
-        Entry::Tried { call, .. } => ("tried", *call, 0, 0),
-        Entry::Looked { server, call, .. } => ("looked", *call, server.0, 0),
-        Entry::NoCurrent { call, .. } => ("no current", *call, 0, 0),
-        Entry::Fetching { id, .. } => ("fetching", id.number, 0, 0),
-        Entry::Fetched { server, id, .. } => ("fetched", id.number, server.0, 0),
-        Entry::Counting { call, .. } => ("counting", *call, 0, 0),
-        Entry::Counted {
-            server,
-            call,
-            info,
-            ..
-        } => ("counted", *call, server.0, info.free),
-        Entry::Finished { call, .. } => ("finished", *call, 0, 0),
-        entry => part_row(entry),
-    }
-}
-
-// Of a batch and its common part.
-fn part_row(entry: &Entry) -> (&'static str, u64, u32, u64) {
-    match entry {
-        Entry::Keeping { call, common, .. } => ("keeping", *call, 0, common.len() as u64),
-        Entry::Kept { server, batch } => ("kept", batch.number, server.0, 0),
-        Entry::Closing { call, .. } => ("closing", *call, 0, 0),
-        Entry::Closed { server, batch } => ("closed", batch.number, server.0, 0),
-        Entry::CommonFetched { server, batch, .. } => ("common fetched", batch.number, server.0, 0),
-        Entry::Freed { server, batch } => ("freed", batch.number, server.0, 0),
-        _ => ("other", 0, 0, 0),
-    }
-}
-
-fn rows(alloc: Global, entries: &[Entry]) -> Result<String, Fail> {
-    let mut rows = String::new(alloc);
-    add_rows(&mut rows, entries)?;
-    Ok(rows)
-}
-
-fn add_rows(rows: &mut String, entries: &[Entry]) -> Result<(), Fail> {
-    for entry in entries {
-        let (name, call, server, bytes) = row(entry);
-        write!(rows, "{name} {call} {server} {bytes}; ")?;
-    }
-    Ok(())
-}
-
-// The fault says that this event is not enabled.
-fn refusal(fault: &ApplyFault, does: Does) -> &'static str {
-    match fault {
-        ApplyFault::NotEnabled { event } if is_that(event, does) => "refused",
-        _ => "another fault",
-    }
-}
-
-fn applies(
-    alloc: Global,
-    world: &mut World,
-    answers: &mut Vec<Answer>,
-    does: Does,
-) -> Result<String, Fail>
-    ensures { world.new.world.config ≡ world.old.world.config }
-{
-    let told = apply(alloc, world, answers, does)?;
-    Ok(String::from_str(alloc, told)?)
-}
-
-// The event is applied or refused. An answer comes to the others.
+// The event is applied or refused, which is told. An answer comes to the others.
 fn apply(
     alloc: Global,
     world: &mut World,
@@ -260,14 +161,77 @@ fn apply(
 {
     let event = event(alloc, does)?;
     match world.apply(event) {
-        Ok(answer) => {
-            if let Some(answer) = answer {
-                answers.push(answer)?;
-            }
-            Ok("done")
-        }
+        Ok(answer) => hear(answers, answer),
         Err(fault) => Ok(refusal(&fault, does)),
     }
+}
+
+fn hear(answers: &mut Vec<Answer>, answer: Option<Answer>) -> Result<&'static str, Fail> {
+    if let Some(answer) = answer {
+        answers.push(answer)?;
+    }
+    Ok("done")
+}
+
+// The fault says that this event is not enabled.
+fn refusal(fault: &ApplyFault, does: Does) -> &'static str {
+    match fault {
+        ApplyFault::NotEnabled { event } if is_that(event, does) => "refused",
+        _ => "another fault",
+    }
+}
+
+// How many of the events were applied, and what came then.
+type Applied = (u64, &'static str);
+
+fn play(
+    alloc: Global,
+    world: &mut World,
+    answers: &mut Vec<Answer>,
+    all: &[Does],
+) -> Result<Applied, Fail>
+    ensures { world.new.world.config ≡ world.old.world.config }
+{
+    let mut applied: u64 = 0;
+    for does in all {
+        let told = apply(alloc, world, answers, *does)?;
+        if told != "done" {
+            return Ok((applied, told));
+        }
+        applied = applied.saturating_add(1);
+    }
+    Ok((applied, "done"))
+}
+
+fn run(world: &mut World, events: Vec<Event>) -> Applied
+    ensures { world.new.world.config ≡ world.old.world.config }
+{
+    match world.run_events(events) {
+        Ok(applied) => (applied, "done"),
+        Err((applied, ApplyFault::NotEnabled { .. })) => (applied, "refused"),
+        Err((applied, _)) => (applied, "another fault"),
+    }
+}
+
+fn is_applied(alloc: Global, (applied, told): Applied, wanted: &str) -> Result<bool, Fail> {
+    let text = if told == "done" {
+        format!(in alloc; "{applied} done")?
+    } else {
+        format!(in alloc; "{applied} done, then {told}")?
+    };
+    Ok(text.as_str() == wanted)
+}
+
+fn applies(
+    alloc: Global,
+    world: &mut World,
+    answers: &mut Vec<Answer>,
+    does: Does,
+    wanted: &str,
+) -> Result<bool, Fail>
+    ensures { world.new.world.config ≡ world.old.world.config }
+{
+    Ok(apply(alloc, world, answers, does)? == wanted)
 }
 
 fn plays(
@@ -275,223 +239,135 @@ fn plays(
     world: &mut World,
     answers: &mut Vec<Answer>,
     all: &[Does],
-) -> Result<String, Fail>
+    wanted: &str,
+) -> Result<bool, Fail>
     ensures { world.new.world.config ≡ world.old.world.config }
 {
-    for (at, does) in all.iter().enumerate() {
-        let told = apply(alloc, world, answers, *does)?;
-        if told != "done" {
-            return Ok(format!(in alloc; "{at} done, then {told}")?);
-        }
-    }
-    let applied = all.len();
-    Ok(format!(in alloc; "{applied} done")?)
+    let applied = play(alloc, world, answers, all)?;
+    is_applied(alloc, applied, wanted)
 }
 
-fn runs(alloc: Global, world: &mut World, all: &[Does]) -> Result<String, Fail>
+fn runs(alloc: Global, world: &mut World, all: &[Does], wanted: &str) -> Result<bool, Fail>
     ensures { world.new.world.config ≡ world.old.world.config }
 {
     let events = events(alloc, all)?;
-    let (applied, told) = run(world, events);
-    Ok(format!(in alloc; "{applied} {told}")?)
+    is_applied(alloc, run(world, events), wanted)
 }
 
-// How many of the events were applied, and what came then.
-fn run(world: &mut World, events: Vec<Event>) -> (u64, &'static str)
-    ensures { world.new.world.config ≡ world.old.world.config }
-{
-    match world.run_events(events) {
-        Ok(applied) => (applied, "done"),
-        Err((applied, ApplyFault::NotEnabled { .. })) => (applied, "done, then refused"),
-        Err((applied, _)) => (applied, "done, then another fault"),
-    }
-}
-
-fn left(alloc: Global, world: &World, servers: u32, number: u32) -> Result<String, Fail>
+/// The units that are left at the server of this number, of as many, are shown so.
+pub(crate) fn has_left(
+    alloc: Global,
+    world: &World,
+    servers: u32,
+    number: u32,
+    wanted: &str,
+) -> Result<bool, Fail>
     requires { world.now.world.config.servers ≡ servers }
 {
     if number >= servers {
         return Err("no such server".into());
     }
     let left = world.left(Server(number))?;
-    Ok(format!(in alloc; "{left:?}")?)
+    let text = format!(in alloc; "{left:?}")?;
+    Ok(text.as_str() == wanted)
 }
 
-fn text(bytes: &[u8]) -> &str {
-    str::from_utf8(bytes).unwrap_or("?")
-}
-
-fn body(alloc: Global, answers: &[Answer]) -> Result<String, Fail> {
-    match answers.last() {
-        Some(Answer::Body(body)) => {
-            let (common, own) = body.runs();
-            let (common, own) = (text(common), text(own));
-            Ok(format!(in alloc; "{common} {own}")?)
+// The last call was a fetch, which gave these two runs of bytes.
+fn has_body(answers: &[Answer], wanted: &str) -> bool {
+    match (answers.last(), wanted.split_once(' ')) {
+        (Some(Answer::Body(body)), Some((common, own))) => {
+            body.runs() == (common.as_bytes(), own.as_bytes())
         }
-        _ => Err("the last call was no fetch".into()),
+        _ => false,
     }
 }
 
-fn info(alloc: Global, answers: &[Answer]) -> Result<String, Fail> {
-    match answers.last() {
-        Some(Answer::Info(info)) => Ok(format!(in alloc; "{info:?}")?),
-        _ => Err("the last call was no count".into()),
-    }
+// The last call was a count, which told this.
+fn has_info(alloc: Global, answers: &[Answer], wanted: &str) -> Result<bool, Fail> {
+    let Some(Answer::Info(info)) = answers.last() else {
+        return Ok(false);
+    };
+    let text = format!(in alloc; "{info:?}")?;
+    Ok(text.as_str() == wanted)
 }
 
-// What a line of a scene gives, as it is shown.
-fn shown(
+fn is_number(number: u64, wanted: &str) -> bool {
+    wanted.parse::<u64>() == Ok(number)
+}
+
+// The line of a scene gives what is wanted.
+fn gives(
     alloc: Global,
     world: &mut World,
     answers: &mut Vec<Answer>,
     servers: u32,
     line: Line,
-) -> Result<String, Fail>
+    wanted: &str,
+) -> Result<bool, Fail>
     requires { world.old.world.config.servers ≡ servers }
     ensures { world.new.world.config ≡ world.old.world.config }
 {
     match line {
-        Line::Applies(does) => applies(alloc, world, answers, does),
-        Line::Runs(all) => runs(alloc, world, all),
-        Line::Plays(all) => plays(alloc, world, answers, all),
-        Line::Waiting(from, to) => count(alloc, world.waiting(from, to)),
-        Line::Answered => count(alloc, answers.len() as u64),
-        Line::Body => body(alloc, answers),
-        Line::Info => info(alloc, answers),
-        Line::Ledger => rows(alloc, &world.ledger().list(alloc)?),
-        Line::Left(number) => left(alloc, world, servers, number),
+        Line::Applies(does) => applies(alloc, world, answers, does, wanted),
+        Line::Runs(all) => runs(alloc, world, all, wanted),
+        Line::Plays(all) => plays(alloc, world, answers, all, wanted),
+        Line::Waiting(from, to) => Ok(is_number(world.waiting(from, to), wanted)),
+        Line::Answered => Ok(is_number(answers.len() as u64, wanted)),
+        Line::Body => Ok(has_body(answers, wanted)),
+        Line::Info => has_info(alloc, answers, wanted),
+        Line::Ledger => ledger_is(alloc, world.ledger(), Form::Numbers, wanted),
+        Line::Left(number) => has_left(alloc, world, servers, number, wanted),
     }
 }
 
-fn count(alloc: Global, number: u64) -> Result<String, Fail> {
-    Ok(format!(in alloc; "{number}")?)
-}
-
-// A world of one rank and this number of servers, each with the lowest limit, gives what is beside each line.
-fn play(rt: &impl Abort, alloc: Global, servers: u32, scene: &[(Line, &str)]) -> Result<(), Fail> {
-    let config = Config::new(1, servers, 64)?;
+// In a world of one rank, each server with the lowest limit: which line of the scene gives something else, if one does.
+fn other_line(alloc: Global, scene: &Scene) -> Result<Option<usize>, Fail> {
+    let config = Config::new(1, scene.servers, 64)?;
     let mut world = World::new(alloc, config)?;
-    go_through(rt, alloc, &mut world, servers, scene)
+    let mut answers = Vec::new(alloc);
+    go_through(alloc, &mut world, &mut answers, scene.servers, scene.lines)
 }
 
-// The world gives what is written beside each line.
 fn go_through(
-    rt: &impl Abort,
     alloc: Global,
     world: &mut World,
+    answers: &mut Vec<Answer>,
     servers: u32,
-    scene: &[(Line, &str)],
-) -> Result<(), Fail>
+    lines: &[(Line, &str)],
+) -> Result<Option<usize>, Fail>
     requires { world.old.world.config.servers ≡ servers }
 {
-    let mut answers = Vec::new(alloc);
-    for (at, (line, expected)) in scene.iter().enumerate() {
-        let given = shown(alloc, world, &mut answers, servers, *line)?;
-        assert_eq!(rt; given.as_str(), *expected, "line {at}");
+    for (at, (line, wanted)) in lines.iter().enumerate() {
+        if !gives(alloc, world, answers, servers, *line, wanted)? {
+            return Ok(Some(at));
+        }
     }
-    Ok(())
+    Ok(None)
 }
 
-#[test]
-fn rejects_after_every_server_refused(rt: HostRuntime) -> Result<(), Fail> {
-    const REFUSED: &[Does] = &[
-        Does::Puts(9),
-        Does::Delivers(RANK, FIRST),
-        Does::Delivers(FIRST, RANK),
-        Does::Delivers(RANK, SECOND),
-        Does::Delivers(SECOND, RANK),
-        Does::Delivers(RANK, THIRD),
-        Does::Delivers(THIRD, RANK),
-    ];
-    const SCENE: &[(Line, &str)] = &[
-        (Line::Plays(FILLS), "9 done"),
-        (Line::Plays(REFUSED), "7 done"),
-        (
-            Line::Ledger,
-            "putting 0 0 56; accepted 0 0 0; putting 1 0 56; accepted 1 1 0; putting 2 0 56; accepted 2 2 0; \
-                putting 3 0 9; refused 3 0 56; refused 3 1 56; refused 3 2 56; rejected 3 0 0; ",
-        ),
-        (Line::Answered, "4"),
-    ];
-    play(&rt, rt.alloc(), 3, SCENE)
-}
+// A put that each of three servers refuses.
+const REFUSED: &[Does] = &[
+    Does::Puts(9),
+    Does::Delivers(RANK, FIRST),
+    Does::Delivers(FIRST, RANK),
+    Does::Delivers(RANK, SECOND),
+    Does::Delivers(SECOND, RANK),
+    Does::Delivers(RANK, THIRD),
+    Does::Delivers(THIRD, RANK),
+];
 
-#[test]
-fn what_is_not_enabled_changes_nothing(rt: HostRuntime) -> Result<(), Fail> {
-    const NONE: Actor = Actor::Server(Server(3));
-    const OTHER: Actor = Actor::Rank(Rank(1));
-    const SCENE: &[(Line, &str)] = &[
-        (Line::Applies(Does::Delivers(RANK, FIRST)), "refused"),
-        (Line::Waiting(RANK, FIRST), "0"),
-        (Line::Applies(Does::Delivers(FIRST, RANK)), "refused"),
-        (Line::Waiting(FIRST, RANK), "0"),
-        (Line::Applies(Does::Delivers(SECOND, THIRD)), "refused"),
-        (Line::Waiting(SECOND, THIRD), "0"),
-        (Line::Applies(Does::Delivers(RANK, RANK)), "refused"),
-        (Line::Waiting(RANK, RANK), "0"),
-        (Line::Applies(Does::Delivers(RANK, NONE)), "refused"),
-        (Line::Waiting(RANK, NONE), "0"),
-        (Line::Applies(Does::Delivers(OTHER, FIRST)), "refused"),
-        (Line::Waiting(OTHER, FIRST), "0"),
-        (Line::Applies(Does::Puts(9)), "done"),
-        // The rank waits, so it is not ready for another call.
-        (Line::Applies(Does::Puts(8)), "refused"),
-        (Line::Ledger, "putting 0 0 9; "),
-        (Line::Waiting(RANK, FIRST), "1"),
-        (Line::Waiting(FIRST, RANK), "0"),
-        (Line::Answered, "0"),
-    ];
-    play(&rt, rt.alloc(), 3, SCENE)
-}
+// A server and a rank that are not in the run.
+const NONE: Actor = Actor::Server(Server(3));
 
-#[test]
-fn a_run_stops_at_the_first_refusal(rt: HostRuntime) -> Result<(), Fail> {
-    const EVENTS: &[Does] = &[
-        Does::Puts(5),
-        Does::Delivers(RANK, FIRST),
-        Does::Delivers(RANK, FIRST),
-        Does::Delivers(FIRST, RANK),
-    ];
-    const SCENE: &[(Line, &str)] = &[
-        (Line::Runs(EVENTS), "2 done, then refused"),
-        (Line::Waiting(FIRST, RANK), "1"),
-        (Line::Runs(&[]), "0 done"),
-        (Line::Applies(Does::Delivers(FIRST, RANK)), "done"),
-        (Line::Ledger, "putting 0 0 5; accepted 0 0 0; "),
-    ];
-    play(&rt, rt.alloc(), 3, SCENE)
-}
+const OTHER: Actor = Actor::Rank(Rank(1));
 
-#[test]
-fn each_server_hears_of_the_end_and_keeps_what_is_left(rt: HostRuntime) -> Result<(), Fail> {
-    const SCENE: &[(Line, &str)] = &[
-        (Line::Plays(FILLS), "9 done"),
-        (Line::Applies(Does::Finishes), "done"),
-        (Line::Waiting(RANK, FIRST), "1"),
-        (Line::Applies(Does::Delivers(RANK, FIRST)), "done"),
-        (Line::Waiting(RANK, FIRST), "0"),
-        (
-            Line::Left(0),
-            "[LeftUnit { id: UnitId { rank: Rank(0), number: 0 }, server: Server(0), pinned: None }]",
-        ),
-        (Line::Waiting(RANK, SECOND), "1"),
-        (Line::Applies(Does::Delivers(RANK, SECOND)), "done"),
-        (Line::Waiting(RANK, SECOND), "0"),
-        (
-            Line::Left(1),
-            "[LeftUnit { id: UnitId { rank: Rank(0), number: 1 }, server: Server(1), pinned: None }]",
-        ),
-        (Line::Waiting(RANK, THIRD), "1"),
-        (Line::Applies(Does::Delivers(RANK, THIRD)), "done"),
-        (Line::Waiting(RANK, THIRD), "0"),
-        (
-            Line::Left(2),
-            "[LeftUnit { id: UnitId { rank: Rank(0), number: 2 }, server: Server(2), pinned: None }]",
-        ),
-        (Line::Answered, "4"),
-    ];
-    play(&rt, rt.alloc(), 3, SCENE)
-}
+// The third of these events cannot happen.
+const EVENTS: &[Does] = &[
+    Does::Puts(5),
+    Does::Delivers(RANK, FIRST),
+    Does::Delivers(RANK, FIRST),
+    Does::Delivers(FIRST, RANK),
+];
 
 // The only server of a run takes two units, of priorities 3 and 7.
 const TWO_PRIORITIES: &[Does] = &[
@@ -517,38 +393,6 @@ const COUNT_2: [Does; 3] = [
     Does::Delivers(FIRST, RANK),
 ];
 
-#[test]
-fn a_count_tells_of_the_units_of_a_type(rt: HostRuntime) -> Result<(), Fail> {
-    const SCENE: &[(Line, &str)] = &[
-        (Line::Runs(TWO_PRIORITIES), "6 done"),
-        (Line::Plays(&COUNT_1), "3 done"),
-        (Line::Info, "Info { free: 2, top: Some(7), at_top: 1 }"),
-        (Line::Plays(&COUNT_2), "3 done"),
-        (Line::Info, "Info { free: 0, top: None, at_top: 0 }"),
-        (
-            Line::Ledger,
-            "putting 0 0 1; accepted 0 0 0; putting 1 0 1; accepted 1 0 0; \
-                counting 2 0 0; counted 2 0 2; counting 3 0 0; counted 3 0 0; ",
-        ),
-    ];
-    play(&rt, rt.alloc(), 1, SCENE)
-}
-
-#[test]
-fn a_count_tells_of_the_home_alone(rt: HostRuntime) -> Result<(), Fail> {
-    const SCENE: &[(Line, &str)] = &[
-        (Line::Runs(FILLS), "9 done"),
-        (Line::Applies(Does::Counts(1)), "done"),
-        (Line::Waiting(RANK, SECOND), "0"),
-        // It waits for the answer.
-        (Line::Applies(Does::Counts(1)), "refused"),
-        (Line::Applies(Does::Delivers(RANK, FIRST)), "done"),
-        (Line::Applies(Does::Delivers(FIRST, RANK)), "done"),
-        (Line::Info, "Info { free: 1, top: Some(0), at_top: 1 }"),
-    ];
-    play(&rt, rt.alloc(), 3, SCENE)
-}
-
 // A try for which each of three servers is asked.
 const LOOKS: &[Does] = &[
     Does::Tries,
@@ -560,61 +404,29 @@ const LOOKS: &[Does] = &[
     Does::Delivers(THIRD, RANK),
 ];
 
-#[test]
-fn there_is_no_work_after_each_server_has_looked(rt: HostRuntime) -> Result<(), Fail> {
-    const SCENE: &[(Line, &str)] = &[
-        (Line::Plays(LOOKS), "7 done"),
-        (
-            Line::Ledger,
-            "tried 0 0 0; looked 0 0 0; looked 0 1 0; looked 0 2 0; no current 0 0 0; ",
-        ),
-        (Line::Answered, "1"),
-        (Line::Applies(Does::Tries), "done"),
-        // The rank awaits the home, and no other server is asked before that has answered.
-        (Line::Applies(Does::Tries), "refused"),
-        (Line::Waiting(RANK, FIRST), "1"),
-        (Line::Waiting(RANK, SECOND), "0"),
-    ];
-    play(&rt, rt.alloc(), 3, SCENE)
-}
-
-#[test]
-fn a_try_is_granted_the_unit_of_another_server(rt: HostRuntime) -> Result<(), Fail> {
-    // The home is full, so the unit of 9 bytes is at the second server.
-    const PUTS: &[Does] = &[
-        Does::Puts(56),
-        Does::Delivers(RANK, FIRST),
-        Does::Delivers(FIRST, RANK),
-        Does::Puts(9),
-        Does::Delivers(RANK, SECOND),
-        Does::Delivers(SECOND, RANK),
-    ];
-    // The first try is granted the home's unit, and the second that of the second server.
-    const TRIES: &[Does] = &[
-        Does::Tries,
-        Does::Delivers(RANK, FIRST),
-        Does::Delivers(FIRST, RANK),
-        Does::Tries,
-        Does::Delivers(RANK, FIRST),
-        Does::Delivers(FIRST, RANK),
-        Does::Delivers(RANK, SECOND),
-        Does::Delivers(SECOND, RANK),
-        Does::Fetches(1),
-        Does::Delivers(RANK, SECOND),
-        Does::Delivers(SECOND, RANK),
-    ];
-    const SCENE: &[(Line, &str)] = &[
-        (Line::Plays(PUTS), "6 done"),
-        (Line::Plays(TRIES), "11 done"),
-        (
-            Line::Ledger,
-            "putting 0 0 56; accepted 0 0 0; putting 1 0 9; accepted 1 1 0; tried 2 0 0; granted 0 0 0; \
-                tried 3 0 0; looked 3 0 0; granted 1 1 0; fetching 1 0 0; fetched 1 1 0; ",
-        ),
-        (Line::Answered, "5"),
-    ];
-    play(&rt, rt.alloc(), 2, SCENE)
-}
+// The home is full, so the unit of 9 bytes is at the second server.
+const PUTS: &[Does] = &[
+    Does::Puts(56),
+    Does::Delivers(RANK, FIRST),
+    Does::Delivers(FIRST, RANK),
+    Does::Puts(9),
+    Does::Delivers(RANK, SECOND),
+    Does::Delivers(SECOND, RANK),
+];
+// The first try is granted the home's unit, and the second that of the second server.
+const TRIES: &[Does] = &[
+    Does::Tries,
+    Does::Delivers(RANK, FIRST),
+    Does::Delivers(FIRST, RANK),
+    Does::Tries,
+    Does::Delivers(RANK, FIRST),
+    Does::Delivers(FIRST, RANK),
+    Does::Delivers(RANK, SECOND),
+    Does::Delivers(SECOND, RANK),
+    Does::Fetches(1),
+    Does::Delivers(RANK, SECOND),
+    Does::Delivers(SECOND, RANK),
+];
 
 // A batch over the bytes `xy`: the units `a` and `b` are put.
 const BATCH: &[Does] = &[
@@ -659,28 +471,181 @@ const WORK_2: [Does; 8] = [
     Does::Delivers(FIRST, RANK),
 ];
 
-#[test]
-fn a_common_part_is_fetched_with_each_unit_and_then_freed(rt: HostRuntime) -> Result<(), Fail> {
-    const SCENE: &[(Line, &str)] = &[
-        (Line::Applies(Does::Ends), "refused"),
-        (Line::Runs(BATCH), "9 done"),
-        // A batch is going on, so the rank does not finish.
-        (Line::Applies(Does::Finishes), "refused"),
-        (Line::Plays(&COUNT_1), "3 done"),
-        (Line::Info, "Info { free: 2, top: Some(0), at_top: 2 }"),
-        (Line::Runs(END), "3 done"),
-        (Line::Plays(&WORK_1), "8 done"),
-        (Line::Body, "xy a"),
-        (Line::Plays(&WORK_2), "8 done"),
-        (Line::Body, "xy b"),
-        (
-            Line::Ledger,
-            "keeping 0 0 2; kept 0 0 0; putting 1 0 1; accepted 1 0 0; putting 2 0 1; accepted 2 0 0; \
+const SCENES: &[Scene] = &[
+    Scene {
+        shows: "rejects after every server refused",
+        servers: 3,
+        lines: &[
+            (Line::Plays(FILLS), "9 done"),
+            (Line::Plays(REFUSED), "7 done"),
+            (
+                Line::Ledger,
+                "putting 0 0 56; accepted 0 0 0; putting 1 0 56; accepted 1 1 0; putting 2 0 56; accepted 2 2 0; \
+                putting 3 0 9; refused 3 0 56; refused 3 1 56; refused 3 2 56; rejected 3 0 0; ",
+            ),
+            (Line::Answered, "4"),
+        ],
+    },
+    Scene {
+        shows: "what is not enabled changes nothing",
+        servers: 3,
+        lines: &[
+            (Line::Applies(Does::Delivers(RANK, FIRST)), "refused"),
+            (Line::Waiting(RANK, FIRST), "0"),
+            (Line::Applies(Does::Delivers(FIRST, RANK)), "refused"),
+            (Line::Waiting(FIRST, RANK), "0"),
+            (Line::Applies(Does::Delivers(SECOND, THIRD)), "refused"),
+            (Line::Waiting(SECOND, THIRD), "0"),
+            (Line::Applies(Does::Delivers(RANK, RANK)), "refused"),
+            (Line::Waiting(RANK, RANK), "0"),
+            (Line::Applies(Does::Delivers(RANK, NONE)), "refused"),
+            (Line::Waiting(RANK, NONE), "0"),
+            (Line::Applies(Does::Delivers(OTHER, FIRST)), "refused"),
+            (Line::Waiting(OTHER, FIRST), "0"),
+            (Line::Applies(Does::Puts(9)), "done"),
+            // The rank waits, so it is not ready for another call.
+            (Line::Applies(Does::Puts(8)), "refused"),
+            (Line::Ledger, "putting 0 0 9; "),
+            (Line::Waiting(RANK, FIRST), "1"),
+            (Line::Waiting(FIRST, RANK), "0"),
+            (Line::Answered, "0"),
+        ],
+    },
+    Scene {
+        shows: "a run stops at the first refusal",
+        servers: 3,
+        lines: &[
+            (Line::Runs(EVENTS), "2 done, then refused"),
+            (Line::Waiting(FIRST, RANK), "1"),
+            (Line::Runs(&[]), "0 done"),
+            (Line::Applies(Does::Delivers(FIRST, RANK)), "done"),
+            (Line::Ledger, "putting 0 0 5; accepted 0 0 0; "),
+        ],
+    },
+    Scene {
+        shows: "each server hears of the end and keeps what is left",
+        servers: 3,
+        lines: &[
+            (Line::Plays(FILLS), "9 done"),
+            (Line::Applies(Does::Finishes), "done"),
+            (Line::Waiting(RANK, FIRST), "1"),
+            (Line::Applies(Does::Delivers(RANK, FIRST)), "done"),
+            (Line::Waiting(RANK, FIRST), "0"),
+            (
+                Line::Left(0),
+                "[LeftUnit { id: UnitId { rank: Rank(0), number: 0 }, server: Server(0), pinned: None }]",
+            ),
+            (Line::Waiting(RANK, SECOND), "1"),
+            (Line::Applies(Does::Delivers(RANK, SECOND)), "done"),
+            (Line::Waiting(RANK, SECOND), "0"),
+            (
+                Line::Left(1),
+                "[LeftUnit { id: UnitId { rank: Rank(0), number: 1 }, server: Server(1), pinned: None }]",
+            ),
+            (Line::Waiting(RANK, THIRD), "1"),
+            (Line::Applies(Does::Delivers(RANK, THIRD)), "done"),
+            (Line::Waiting(RANK, THIRD), "0"),
+            (
+                Line::Left(2),
+                "[LeftUnit { id: UnitId { rank: Rank(0), number: 2 }, server: Server(2), pinned: None }]",
+            ),
+            (Line::Answered, "4"),
+        ],
+    },
+    Scene {
+        shows: "a count tells of the units of a type",
+        servers: 1,
+        lines: &[
+            (Line::Runs(TWO_PRIORITIES), "6 done"),
+            (Line::Plays(&COUNT_1), "3 done"),
+            (Line::Info, "Info { free: 2, top: Some(7), at_top: 1 }"),
+            (Line::Plays(&COUNT_2), "3 done"),
+            (Line::Info, "Info { free: 0, top: None, at_top: 0 }"),
+            (
+                Line::Ledger,
+                "putting 0 0 1; accepted 0 0 0; putting 1 0 1; accepted 1 0 0; \
+                counting 2 0 0; counted 2 0 2; counting 3 0 0; counted 3 0 0; ",
+            ),
+        ],
+    },
+    Scene {
+        shows: "a count tells of the home alone",
+        servers: 3,
+        lines: &[
+            (Line::Runs(FILLS), "9 done"),
+            (Line::Applies(Does::Counts(1)), "done"),
+            (Line::Waiting(RANK, SECOND), "0"),
+            // It waits for the answer.
+            (Line::Applies(Does::Counts(1)), "refused"),
+            (Line::Applies(Does::Delivers(RANK, FIRST)), "done"),
+            (Line::Applies(Does::Delivers(FIRST, RANK)), "done"),
+            (Line::Info, "Info { free: 1, top: Some(0), at_top: 1 }"),
+        ],
+    },
+    Scene {
+        shows: "there is no work after each server has looked",
+        servers: 3,
+        lines: &[
+            (Line::Plays(LOOKS), "7 done"),
+            (
+                Line::Ledger,
+                "tried 0 0 0; looked 0 0 0; looked 0 1 0; looked 0 2 0; no current 0 0 0; ",
+            ),
+            (Line::Answered, "1"),
+            (Line::Applies(Does::Tries), "done"),
+            // The rank awaits the home, and no other server is asked before that has answered.
+            (Line::Applies(Does::Tries), "refused"),
+            (Line::Waiting(RANK, FIRST), "1"),
+            (Line::Waiting(RANK, SECOND), "0"),
+        ],
+    },
+    Scene {
+        shows: "a try is granted the unit of another server",
+        servers: 2,
+        lines: &[
+            (Line::Plays(PUTS), "6 done"),
+            (Line::Plays(TRIES), "11 done"),
+            (
+                Line::Ledger,
+                "putting 0 0 56; accepted 0 0 0; putting 1 0 9; accepted 1 1 0; tried 2 0 0; granted 0 0 0; \
+                tried 3 0 0; looked 3 0 0; granted 1 1 0; fetching 1 0 0; fetched 1 1 0; ",
+            ),
+            (Line::Answered, "5"),
+        ],
+    },
+    Scene {
+        shows: "a common part is fetched with each unit and then freed",
+        servers: 1,
+        lines: &[
+            (Line::Applies(Does::Ends), "refused"),
+            (Line::Runs(BATCH), "9 done"),
+            // A batch is going on, so the rank does not finish.
+            (Line::Applies(Does::Finishes), "refused"),
+            (Line::Plays(&COUNT_1), "3 done"),
+            (Line::Info, "Info { free: 2, top: Some(0), at_top: 2 }"),
+            (Line::Runs(END), "3 done"),
+            (Line::Plays(&WORK_1), "8 done"),
+            (Line::Body, "xy a"),
+            (Line::Plays(&WORK_2), "8 done"),
+            (Line::Body, "xy b"),
+            (
+                Line::Ledger,
+                "keeping 0 0 2; kept 0 0 0; putting 1 0 1; accepted 1 0 0; putting 2 0 1; accepted 2 0 0; \
                 counting 3 0 0; counted 3 0 2; closing 4 0 0; closed 0 0 0; asked 5 0 0; granted 1 0 0; \
                 fetching 1 0 0; fetched 1 0 0; common fetched 0 0 0; asked 7 0 0; granted 2 0 0; \
                 fetching 2 0 0; fetched 2 0 0; common fetched 0 0 0; freed 0 0 0; ",
-        ),
-        (Line::Left(0), "[]"),
-    ];
-    play(&rt, rt.alloc(), 1, SCENE)
+            ),
+            (Line::Left(0), "[]"),
+        ],
+    },
+];
+
+#[test]
+fn each_line_gives_what_is_beside_it(rt: HostRuntime) -> Result<(), Fail> {
+    for scene in SCENES {
+        let shows = scene.shows;
+        let other = other_line(rt.alloc(), scene)?;
+        assert!(rt; other.is_none(), "{shows}: line {other:?}");
+    }
+    Ok(())
 }
