@@ -30,18 +30,6 @@ fn change(entry: &mut Entry) {
         Entry::Refused { used, .. } => *used = used.wrapping_add(1),
         Entry::Counted { info, .. } => info.free = info.free.wrapping_add(1),
         Entry::Over { end, .. } => *end = other_end(*end),
-        Entry::Kept { batch, .. }
-        | Entry::Closed { batch, .. }
-        | Entry::Freed { batch, .. }
-        | Entry::CommonFetched { batch, .. } => batch.number = batch.number.wrapping_add(1000),
-        Entry::Accepted { id, .. }
-        | Entry::Granted { id, .. }
-        | Entry::Fetching { id, .. }
-        | Entry::Fetched { id, .. }
-        | Entry::Promised { id, .. }
-        | Entry::Left { id, .. }
-        | Entry::Arrived { id, .. }
-        | Entry::Withdrawn { id, .. } => id.number = id.number.wrapping_add(1000),
         Entry::Asked { call, .. }
         | Entry::Tried { call, .. }
         | Entry::Rejected { call, .. }
@@ -51,7 +39,33 @@ fn change(entry: &mut Entry) {
         | Entry::Closing { call, .. }
         | Entry::Done { call, .. }
         | Entry::Finished { call, .. } => *call = call.wrapping_add(1),
-        Entry::Putting { .. } | Entry::Keeping { .. } | Entry::Exhausted => {}
+        other => change_unit(other),
+    }
+}
+
+// Of an entry about a unit the unit.
+fn change_unit(entry: &mut Entry) {
+    match entry {
+        Entry::Accepted { id, .. }
+        | Entry::Granted { id, .. }
+        | Entry::Fetching { id, .. }
+        | Entry::Fetched { id, .. }
+        | Entry::Promised { id, .. }
+        | Entry::Left { id, .. }
+        | Entry::Arrived { id, .. }
+        | Entry::Withdrawn { id, .. } => id.number = id.number.wrapping_add(1000),
+        other => change_batch(other),
+    }
+}
+
+// Of an entry about a batch the batch.
+fn change_batch(entry: &mut Entry) {
+    match entry {
+        Entry::Kept { batch, .. }
+        | Entry::Closed { batch, .. }
+        | Entry::Freed { batch, .. }
+        | Entry::CommonFetched { batch, .. } => batch.number = batch.number.wrapping_add(1000),
+        _ => {}
     }
 }
 

@@ -2,9 +2,10 @@
 
 use crate::calls::Words;
 use crate::changes::changed;
-use crate::scripts::driven;
+use crate::scripts::GoingRun;
 use adlb_unit::{Config, End, Rank, UnitId};
 use bag_ledger::Entry;
+use core_world::World;
 use ledger_checker::first_illegal;
 use packed_ledger::{Entries, Ledger};
 use std::alloc::Global;
@@ -27,6 +28,7 @@ fn push_changed(
     Ok(())
 }
 
+// The next entry is pushed, changed or as it is.
 fn push_next(
     alloc: Global,
     other: &mut Ledger,
@@ -268,17 +270,16 @@ fn is_accepted(entry: &Entry, unit: UnitId) -> bool {
 // The run of this number, noted in what was seen: its ledger is legal, one change shows, and each rank was told the end.
 fn is_as_stated(alloc: Global, number: u64, seen: &mut Seen) -> Result<bool, Fail> {
     let config = config_of(number)?;
-    let world = driven(alloc, config, number)?;
-    is_told(alloc, &config, number, world.ledger(), seen)
+    let mut run = GoingRun {
+        world: World::new(alloc, config)?,
+        config,
+    };
+    is_told(alloc, &mut run, number, seen)
 }
 
-fn is_told(
-    alloc: Global,
-    config: &Config,
-    number: u64,
-    ledger: &Ledger,
-    seen: &mut Seen,
-) -> Result<bool, Fail> {
+fn is_told(alloc: Global, run: &mut GoingRun, number: u64, seen: &mut Seen) -> Result<bool, Fail> {
+    run.is_driven(alloc, number)?;
+    let (ledger, config) = (run.world.ledger(), &run.config);
     Ok(have_finished(alloc, ledger, config, seen)? && is_judged(alloc, ledger, config, number)?)
 }
 

@@ -93,33 +93,24 @@ impl Callers {
     }
 }
 
-// A run that goes on.
+/// A run that goes on.
 #[derive(Drop)]
-struct GoingRun {
-    world: World,
-    config: Config,
+pub(crate) struct GoingRun {
+    pub(crate) world: World,
+    pub(crate) config: Config,
     ghost run_is: { world.world.config ≡ config },
 }
 
-/// The world in which nothing is enabled any more, after events that this number chooses, and in which each server has ended.
-pub(crate) fn driven(alloc: Global, config: Config, number: u64) -> Result<World, Fail> {
-    let mut callers = Callers {
-        ranks: vec![in alloc; Caller::new(); config.ranks as usize]?,
-        words: Words::new(number),
-    };
-    driven_by(alloc, config, &mut callers)
-}
-
-fn driven_by(alloc: Global, config: Config, callers: &mut Callers) -> Result<World, Fail> {
-    let mut run = GoingRun {
-        world: World::new(alloc, config)?,
-        config,
-    };
-    run.goes_to_its_end(alloc, callers)?;
-    Ok(run.world)
-}
-
 impl GoingRun {
+    /// Carries out events that this number chooses, until nothing is enabled any more, when each server has ended.
+    pub(crate) fn is_driven(&mut self, alloc: Global, number: u64) -> Result<(), Fail> {
+        let mut callers = Callers {
+            ranks: vec![in alloc; Caller::new(); self.config.ranks as usize]?,
+            words: Words::new(number),
+        };
+        self.goes_to_its_end(alloc, &mut callers)
+    }
+
     // Events until nothing is enabled, when each server has ended.
     fn goes_to_its_end(&mut self, alloc: Global, callers: &mut Callers) -> Result<(), Fail> {
         for _ in 0..EVENTS {
