@@ -106,14 +106,23 @@ fn add_numbers(text: &mut String, entry: &Entry) -> Result<(), Fail> {
 }
 
 fn add_place(text: &mut String, entry: &Entry) -> Result<(), Fail> {
-    let (name, place) = (name(entry), place(entry));
     match entry {
-        Entry::Granted { rank, .. } => Ok(write!(text, "{name} {place} to {}; ", rank.0)?),
-        Entry::Refused { used, .. } => Ok(write!(text, "{name} {place} by {used}; ")?),
-        Entry::Left { to, .. } => Ok(write!(text, "{name} {place} to {}; ", to.0)?),
-        Entry::Exhausted => Ok(write!(text, "{name}; ")?),
-        _ => Ok(write!(text, "{name} {place}; ")?),
+        Entry::Granted { rank, .. } => add_two(text, entry, "to", u64::from(rank.0)),
+        Entry::Refused { used, .. } => add_two(text, entry, "by", *used),
+        Entry::Left { to, .. } => add_two(text, entry, "to", u64::from(to.0)),
+        Entry::Exhausted => Ok(text.push_str("exhausted; ")?),
+        _ => add_one(text, entry),
     }
+}
+
+fn add_one(text: &mut String, entry: &Entry) -> Result<(), Fail> {
+    let (name, place) = (name(entry), place(entry));
+    Ok(write!(text, "{name} {place}; ")?)
+}
+
+fn add_two(text: &mut String, entry: &Entry, how: &str, number: u64) -> Result<(), Fail> {
+    let (name, place) = (name(entry), place(entry));
+    Ok(write!(text, "{name} {place} {how} {number}; ")?)
 }
 
 fn name(entry: &Entry) -> &'static str {
