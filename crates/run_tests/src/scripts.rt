@@ -86,9 +86,12 @@ struct Callers {
 
 impl Callers {
     // The rank that calls or hears of its call has its answer, if there is one.
-    fn note(&mut self, number: usize, finishes: bool, answer: Option<Answer>) {
-        if let (Some(caller), Some(answer)) = (self.ranks.get_mut(number), answer) {
-            caller.hear(&answer, finishes);
+    fn note(&mut self, number: usize, finishes: bool, answer: &Option<Answer>) {
+        let Some(answer) = answer else {
+            return;
+        };
+        if let Some(caller) = self.ranks.get_mut(number) {
+            caller.hear(answer, finishes);
         }
     }
 }
@@ -138,7 +141,7 @@ impl GoingRun {
         let finishes = matches!(event, Event::Call(_, Call::Finish));
         match self.world.apply(event) {
             Ok(answer) => {
-                callers.note(rank_of(choice), finishes, answer);
+                callers.note(rank_of(choice), finishes, &answer);
                 Ok(true)
             }
             Err(_) => Err("an enabled event was refused".into()),
