@@ -1,248 +1,263 @@
 //! Reads and writes that fail, and inputs that are too long.
 
-ghost use Rattle.std.specs.Prelude.{◌<◌};
-
-use crate::runs::{Ran, run_words, seen, words};
+use crate::rows::Shows;
+use crate::runs::{run_between, run_gated};
 use crate::tables::{FORCED, FORCED_SOLVED, NOTHING, TWO, TWO_SOLVED};
-use adlb_command::run_adlb;
 use adlb_io::{FreeGate, MemorySink, MemorySource, RealThreads, Spawner};
 use std::alloc::Global;
 use std::test::Fail;
 
-/// Which calls of a source and of a sink fail, and how many bytes they take at most.
+/// The calls of a source or of a sink: how many bytes each takes at most, and the number of the one that fails.
+type Calls = (usize, u64);
+
+/// The number of a call that no run comes to.
+const NEVER: u64 = 1000;
+
+/// Which calls fail, and how many bytes each of them takes at most.
 #[derive(Clone, Copy)]
-struct Failing {
-    per_read: usize,
-    read: u64,
-    per_write: usize,
-    write: u64,
-    ghost reads: { 0 < per_read },
-    ghost writes: { 0 < per_write },
+enum Fails {
+    Read(usize),
+    Write(usize),
 }
 
-// A run on this puzzle that reads and writes pieces of this length, whose calls of these numbers fail.
-fn run_failing<T: Spawner>(
+impl Fails {
+    // The calls of the source and of the sink where the one of this number fails.
+    fn calls(self, call: u64) -> (Calls, Calls) {
+        match self {
+            Fails::Read(most) => ((most, call), (1000, NEVER)),
+            Fails::Write(most) => ((100, NEVER), (most, call)),
+        }
+    }
+
+    // A read that fails writes nothing; a write leaves so many bytes of the report, which is kept. It is whole if none fails.
+    fn shows<'a>(self, report: &'a str, taken: Option<usize>) -> Shows<'a> {
+        match (self, taken) {
+            (Fails::Read(_), Some(_)) => Shows::Refused(3, "read failed"),
+            (Fails::Write(_), Some(taken)) => Shows::Cut(report, taken),
+            (_, None) => Shows::Is(report),
+        }
+    }
+}
+
+// A run on this puzzle, whose source and sink have these calls, shows this.
+fn is_met<T: Spawner>(
     alloc: Global,
     threads: &mut T,
     (line, puzzle): (&str, &str),
-    failing: Failing,
-) -> Result<Ran, Fail> {
-    let words = words(alloc, line)?;
+    ((per_read, read), (per_write, write)): (Calls, Calls),
+    shows: &Shows<'_>,
+) -> Result<bool, Fail> {
     let bytes = puzzle.as_bytes().to_vec(alloc)?;
-    let mut input = MemorySource::new(bytes, failing.per_read, [failing.read].to_vec(alloc)?);
-    let mut output = MemorySink::new(alloc, failing.per_write, [failing.write].to_vec(alloc)?);
-    let end = run_adlb(
-        alloc,
-        words.as_slice(),
-        &mut input,
-        &mut output,
-        threads,
-        FreeGate {},
-    );
-    seen(alloc, &end, output.taken())
+    let mut input = MemorySource::new(bytes, per_read.max(1), [read].to_vec(alloc)?);
+    let mut output = MemorySink::new(alloc, per_write.max(1), [write].to_vec(alloc)?);
+    let ran = run_between(alloc, threads, FreeGate {}, line, &mut input, &mut output)?;
+    Ok(shows.is_of(&ran))
 }
 
-// Nothing is written where the read of this number fails.
-fn read_fails<T: Spawner>(
-    alloc: Global,
-    threads: &mut T,
-    run: (&str, &str),
-    per_read: usize,
-    read: u64,
-) -> Result<bool, Fail>
-    requires { 0 < per_read }
-{
-    let failing = Failing {
-        per_read,
-        read,
-        per_write: 1000,
-        write: 1000,
-    };
-    let ran = run_failing(alloc, threads, run, failing)?;
-    Ok(ran.is_refused(3, "read failed"))
-}
+/// What fails; words, and a puzzle with its report; which calls fail, and the number of the first that does; how many bytes are
+/// written where it fails, where the one after it does in its place, and so on. None: no run comes to that call.
+type Scene = (
+    &'static str,
+    (&'static str, &'static str, &'static str),
+    (Fails, u64),
+    &'static [Option<usize>],
+);
 
-#[test]
-fn a_read_that_fails_writes_nothing(rt: HostRuntime) -> Result<(), Fail> {
-    let mut threads = RealThreads::new(rt);
+/// The report on the forced puzzle has 144 bytes, so it goes in 15 writes of 10 bytes at most; the flush is the call after them.
+const ONCE: &[Scene] = &[
     // The read of the whole fails, or the second of those of 40 bytes.
-    assert!(rt; read_fails(rt.alloc(), &mut threads, ("solve", FORCED), 100, 1)?);
-    assert!(rt; read_fails(rt.alloc(), &mut threads, ("solve", FORCED), 40, 2)?);
-    Ok(())
-}
-
-/// The puzzle with two solutions has 81 bytes: nine reads of 10 bytes at most, and one that finds the end.
-const READS: u64 = 10;
-
-// Each read in turn fails, and nothing is written; where the one after the last would fail, the report is.
-fn each_read_fails<T: Spawner>(alloc: Global, threads: &mut T, line: &str) -> Result<bool, Fail> {
-    for read in 1..READS + 1 {
-        if !read_fails(alloc, threads, (line, TWO), 10, read)? {
-            return Ok(false);
-        }
-    }
-    let unmet = Failing {
-        per_read: 10,
-        read: READS + 1,
-        per_write: 1000,
-        write: 1000,
-    };
-    let ran = run_failing(alloc, threads, (line, TWO), unmet)?;
-    Ok(ran.is_well() && ran.written.as_str() == TWO_SOLVED)
-}
+    (
+        "no read",
+        ("solve", FORCED, FORCED_SOLVED),
+        (Fails::Read(100), 1),
+        &[Some(0)],
+    ),
+    (
+        "a read",
+        ("solve", FORCED, FORCED_SOLVED),
+        (Fails::Read(40), 2),
+        &[Some(0)],
+    ),
+    (
+        "no write",
+        ("solve", FORCED, FORCED_SOLVED),
+        (Fails::Write(10), 1),
+        &[Some(0)],
+    ),
+    (
+        "a write",
+        ("solve", FORCED, FORCED_SOLVED),
+        (Fails::Write(10), 2),
+        &[Some(10)],
+    ),
+    (
+        "a write",
+        ("solve --inline", FORCED, FORCED_SOLVED),
+        (Fails::Write(10), 2),
+        &[Some(10)],
+    ),
+    (
+        "all but one",
+        ("solve --inline", FORCED, FORCED_SOLVED),
+        (Fails::Write(10), 15),
+        &[Some(140)],
+    ),
+    (
+        "no flush",
+        ("solve", FORCED, FORCED_SOLVED),
+        (Fails::Write(10), 16),
+        &[Some(144)],
+    ),
+];
 
 /// In line, and with threads.
-const BOTH_WAYS: &[&str] = &["solve --inline", "solve --ranks 2 --servers 2"];
+const INLINE: (&str, &str, &str) = ("solve --inline", TWO, TWO_SOLVED);
 
-#[test]
-fn each_read_in_turn_fails(rt: HostRuntime) -> Result<(), Fail> {
-    let mut threads = RealThreads::new(rt);
-    for line in BOTH_WAYS {
-        assert!(rt; each_read_fails(rt.alloc(), &mut threads, line)?, "{line}");
-    }
-    Ok(())
-}
+const THREADED: (&str, &str, &str) = ("solve --ranks 2 --servers 2", TWO, TWO_SOLVED);
 
-// How much of this report is written where the sink's call of this number fails. The report is kept.
-fn write_fails<T: Spawner>(
-    alloc: Global,
-    threads: &mut T,
-    run: (&str, &str),
-    report: &str,
-    (write, taken): (u64, usize),
-) -> Result<bool, Fail> {
-    let failing = Failing {
-        per_read: 100,
-        read: 1000,
-        per_write: 10,
-        write,
-    };
-    let ran = run_failing(alloc, threads, run, failing)?;
-    Ok(
-        ran.status == 4
-            && ran.fault.as_str() == "write failed"
-            && ran.written.len() == taken
-            && report.starts_with(ran.written.as_str())
-            && !ran.ledger.is_empty(),
-    )
-}
-
-/// Words, the call that fails, and how many bytes are written. The report has 144 bytes, so it goes in 15 writes of 10 bytes at
-/// most; the flush is the call after them.
-const WRITES: &[(&str, u64, usize)] = &[
-    ("solve", 1, 0),
-    ("solve", 2, 10),
-    ("solve --inline", 2, 10),
-    ("solve --inline", 15, 140),
-    ("solve", 16, 144),
+/// The puzzle with two solutions has 81 bytes: nine reads of 10 bytes at most, and one that finds the end.
+const READS: &[Option<usize>] = &[
+    Some(0),
+    Some(0),
+    Some(0),
+    Some(0),
+    Some(0),
+    Some(0),
+    Some(0),
+    Some(0),
+    Some(0),
+    Some(0),
+    None,
 ];
 
-#[test]
-fn a_write_that_fails_leaves_the_front_of_the_report(rt: HostRuntime) -> Result<(), Fail> {
-    let mut threads = RealThreads::new(rt);
-    for (line, write, taken) in WRITES {
-        assert!(rt;
-            write_fails(
-                rt.alloc(),
-                &mut threads,
-                (line, FORCED),
-                FORCED_SOLVED,
-                (*write, *taken)
-            )?,
-            "{line}, call {write}"
-        );
-    }
-    Ok(())
-}
-
-/// The report on the puzzle with two solutions has 226 bytes: 23 writes of 10 bytes at most, and then the flush. How many bytes are
-/// written where each of them fails.
-const TAKEN: &[usize] = &[
-    0, 10, 20, 30, 40, 50, 60, 70, 80, 90, 100, 110, 120, 130, 140, 150, 160, 170, 180, 190, 200,
-    210, 220, 226,
+/// The report on the puzzle with two solutions has 226 bytes: 23 writes of 10 bytes at most, and then the flush.
+const TAKEN: &[Option<usize>] = &[
+    Some(0),
+    Some(10),
+    Some(20),
+    Some(30),
+    Some(40),
+    Some(50),
+    Some(60),
+    Some(70),
+    Some(80),
+    Some(90),
+    Some(100),
+    Some(110),
+    Some(120),
+    Some(130),
+    Some(140),
+    Some(150),
+    Some(160),
+    Some(170),
+    Some(180),
+    Some(190),
+    Some(200),
+    Some(210),
+    Some(220),
+    Some(226),
+    None,
 ];
 
-// A run on the puzzle with two solutions, of which no call fails, writes its report in pieces of this length.
-fn writes_by<T: Spawner>(
+const IN_TURN: &[Scene] = &[
+    ("each read", INLINE, (Fails::Read(10), 1), READS),
+    ("each read", THREADED, (Fails::Read(10), 1), READS),
+    (
+        "each write and the flush",
+        INLINE,
+        (Fails::Write(10), 1),
+        TAKEN,
+    ),
+    (
+        "each write and the flush",
+        THREADED,
+        (Fails::Write(10), 1),
+        TAKEN,
+    ),
+    ("a byte a write", INLINE, (Fails::Write(1), NEVER), &[None]),
+    (
+        "a byte a write",
+        THREADED,
+        (Fails::Write(1), NEVER),
+        &[None],
+    ),
+];
+
+// Each call of the scene, where it fails, shows what it is to. It fails with the first that does not.
+fn must_meet<T: Spawner>(
     alloc: Global,
     threads: &mut T,
-    line: &str,
-    per_write: usize,
-    write: u64,
-) -> Result<bool, Fail>
-    requires { 0 < per_write }
-{
-    let failing = Failing {
-        per_read: 100,
-        read: 1000,
-        per_write,
-        write,
-    };
-    let ran = run_failing(alloc, threads, (line, TWO), failing)?;
-    Ok(ran.is_well() && ran.written.as_str() == TWO_SOLVED)
-}
-
-// Each write in turn fails, and the flush; where the call after that would fail, the whole report is written.
-fn each_write_fails<T: Spawner>(alloc: Global, threads: &mut T, line: &str) -> Result<bool, Fail> {
-    let mut write = 0_u64;
-    for taken in TAKEN {
-        write = write.saturating_add(1);
-        if !write_fails(alloc, threads, (line, TWO), TWO_SOLVED, (write, *taken))? {
-            return Ok(false);
+    (what, (line, puzzle, report), (fails, first), taken): &Scene,
+) -> Result<(), Fail> {
+    let mut call = *first;
+    for taken in *taken {
+        let shows = fails.shows(report, *taken);
+        if !is_met(alloc, threads, (line, puzzle), fails.calls(call), &shows)? {
+            return Err((*what, *line, call).into());
         }
-    }
-    writes_by(alloc, threads, line, 10, write.saturating_add(1))
-}
-
-#[test]
-fn each_write_and_the_flush_in_turn_fail(rt: HostRuntime) -> Result<(), Fail> {
-    let mut threads = RealThreads::new(rt);
-    for line in BOTH_WAYS {
-        assert!(rt; each_write_fails(rt.alloc(), &mut threads, line)?, "{line}");
+        call = call.saturating_add(1);
     }
     Ok(())
 }
 
 #[test]
-fn a_sink_that_takes_a_byte_a_write_gets_the_whole_report(rt: HostRuntime) -> Result<(), Fail> {
+fn a_call_that_fails_writes_nothing_or_the_front_of_the_report(
+    rt: HostRuntime,
+) -> Result<(), Fail> {
     let mut threads = RealThreads::new(rt);
-    for line in BOTH_WAYS {
-        assert!(rt;
-            writes_by(rt.alloc(), &mut threads, line, 1, 1000)?,
-            "{line}"
-        );
+    for scene in ONCE {
+        must_meet(rt.alloc(), &mut threads, scene)?;
     }
     Ok(())
 }
 
-// A run on `count` times this byte has this status and fault, and writes this.
+#[test]
+fn each_call_in_turn_fails(rt: HostRuntime) -> Result<(), Fail> {
+    let mut threads = RealThreads::new(rt);
+    for scene in IN_TURN {
+        must_meet(rt.alloc(), &mut threads, scene)?;
+    }
+    Ok(())
+}
+
+/// A byte, how many of them are an input, and what is shown.
+type Long = (u8, usize, Shows<'static>);
+
+// A run on an input of one byte, so many times, shows what it is to.
 fn ends<T: Spawner>(
     alloc: Global,
     threads: &mut T,
-    (byte, count): (u8, usize),
-    (status, fault, written): (u8, &str, &str),
+    (byte, count, shows): &Long,
 ) -> Result<bool, Fail> {
-    let input = vec![in alloc; byte; count]?;
-    let ran = run_words(alloc, threads, "solve", input.as_slice())?;
-    Ok(ran.status == status && ran.fault.as_str() == fault && ran.written.as_str() == written)
+    let bytes = vec![in alloc; *byte; *count]?;
+    let ran = run_gated(alloc, threads, FreeGate {}, "solve", &bytes)?;
+    Ok(shows.is_of(&ran))
 }
+
+const LINES: &[Long] = &[
+    (b'#', 0x10_0000, Shows::Is(NOTHING)),
+    (b'#', 0x10_0001, Shows::Refused(1, "line 1: long")),
+];
 
 #[test]
 fn a_line_has_at_most_two_to_the_20_bytes(rt: HostRuntime) -> Result<(), Fail> {
     let mut threads = RealThreads::new(rt);
-    let most = (b'#', 0x10_0000);
-    assert!(rt; ends(rt.alloc(), &mut threads, most, (0, "", NOTHING))?);
-    let more = (b'#', 0x10_0001);
-    assert!(rt; ends(rt.alloc(), &mut threads, more, (1, "line 1: long", ""))?);
+    for row in LINES {
+        assert!(rt; ends(rt.alloc(), &mut threads, row)?, "{} bytes", row.1);
+    }
     Ok(())
 }
+
+const INPUTS: &[Long] = &[
+    (b'\n', 0x100_0000, Shows::Is(NOTHING)),
+    (b'\n', 0x100_0001, Shows::Refused(8, "input too large")),
+];
 
 #[test]
 fn an_input_has_at_most_two_to_the_24_bytes(rt: HostRuntime) -> Result<(), Fail> {
     let mut threads = RealThreads::new(rt);
-    let most = (b'\n', 0x100_0000);
-    assert!(rt; ends(rt.alloc(), &mut threads, most, (0, "", NOTHING))?);
-    let more = (b'\n', 0x100_0001);
-    assert!(rt; ends(rt.alloc(), &mut threads, more, (8, "input too large", ""))?);
+    for row in INPUTS {
+        assert!(rt; ends(rt.alloc(), &mut threads, row)?, "{} bytes", row.1);
+    }
     Ok(())
 }

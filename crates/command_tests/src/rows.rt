@@ -9,35 +9,57 @@ use std::thread::Threads;
 
 /// What a run shows.
 #[derive(Clone, Copy)]
-pub enum Shows {
+pub enum Shows<'a> {
     /// It ends well and writes this.
-    Is(&'static str),
+    Is(&'a str),
     /// It ends well, and what it writes begins with the first and ends with the second.
-    Frame(&'static str, &'static str),
-    /// It ends well, writes this and keeps this ledger, a letter an entry.
-    Kept(&'static str, &'static str),
+    Frame(&'a str, &'a str),
+    /// It ends well, writes this and keeps this ledger, a letter an entry, with nothing left.
+    Kept(&'a str, &'a str),
+    /// It ends well, writes this and keeps a ledger that is a legal run.
+    Legal(&'a str),
     /// It has this status and fault, writes nothing and keeps no report.
-    Refused(u8, &'static str),
+    Refused(u8, &'a str),
+    /// A write fails after this many bytes of this report, which is kept.
+    Cut(&'a str, usize),
+    /// It has this status.
+    Status(u8),
 }
 
-impl Shows {
-    fn is_of(&self, ran: &Ran) -> bool {
+impl Shows<'_> {
+    /// The run shows this.
+    pub fn is_of(&self, ran: &Ran) -> bool {
         let written = ran.written.as_str();
         match *self {
-            Shows::Is(text) => ran.is_well() && written == text,
-            Shows::Frame(begin, end) => ran.is_well()
-                && written.starts_with(begin)
-                && written.ends_with(end),
-            Shows::Kept(text, ledger) => ran.is_well()
-                && written == text
-                && ran.ledger.as_str() == ledger,
-            Shows::Refused(status, fault) => ran.is_refused(status, fault),
+            Shows::Is(text) => ran.writes(text),
+            Shows::Frame(begin, end) => ran.is_well() && is_framed(written, begin, end),
+            Shows::Kept(text, ledger) => ran.writes(text)
+                && ran.ledger.as_str() == ledger
+                && ran.left == 0,
+            Shows::Legal(text) => ran.writes(text) && ran.legal,
+            Shows::Refused(status, fault) => ran.fails(status, fault, false) && written.is_empty(),
+            Shows::Cut(report, taken) => ran.fails(4, "write failed", true)
+                && is_front(written, report, taken),
+            Shows::Status(status) => ran.status == status,
         }
     }
 }
 
+fn is_framed(written: &str, begin: &str, end: &str) -> bool {
+    written.starts_with(begin) && written.ends_with(end)
+}
+
+// This is written of the report, so many bytes.
+fn is_front(written: &str, report: &str, taken: usize) -> bool {
+    written.len() == taken && report.starts_with(written)
+}
+
 /// The command lines of some runs, the pieces of the input that each of them has, and what each shows.
-pub type Row = (&'static [&'static str], &'static [&'static str], Shows);
+pub type Row = (
+    &'static [&'static str],
+    &'static [&'static str],
+    Shows<'static>,
+);
 
 // The pieces, one after the other.
 fn joined(alloc: Global, pieces: &[&str]) -> Result<String, Fail> {
@@ -48,34 +70,46 @@ fn joined(alloc: Global, pieces: &[&str]) -> Result<String, Fail> {
     Ok(all)
 }
 
-// A run with these words on this input shows that.
-fn is_shown<T: Spawner>(
+/// A run with these words on this input shows this.
+pub fn is_shown<T: Spawner>(
     alloc: Global,
     threads: &mut T,
     line: &str,
     input: &str,
-    shows: Shows,
+    shows: &Shows<'_>,
 ) -> Result<bool, Fail> {
-    let ran = run_words(alloc, threads, line, input.as_bytes())?;
+    let ran = run_words(alloc, threads, line, input)?;
     Ok(shows.is_of(&ran))
 }
 
-// The first words of the row that show something else.
-fn bad_line<T: Spawner>(
+/// A run with these words on this input shows this. It fails otherwise, with both.
+pub fn must_show<T: Spawner>(
     alloc: Global,
     threads: &mut T,
-    (lines, pieces, shows): Row,
-) -> Result<Option<&'static str>, Fail> {
-    let input = joined(alloc, pieces)?;
-    for line in lines {
-        if !is_shown(alloc, threads, line, input.as_str(), shows)? {
-            return Ok(Some(line));
-        }
+    line: &str,
+    input: &str,
+    shows: &Shows<'_>,
+) -> Result<(), Fail> {
+    if is_shown(alloc, threads, line, input, shows)? {
+        return Ok(());
     }
-    Ok(None)
+    Err(Fail::new(format_args!("{line}: {input}")))
 }
 
-/// Each row is shown, with real threads. It fails with the first words that show something else, and the pieces of their input.
+// Each line of the row shows what it is to.
+fn show_row<T: Spawner>(
+    alloc: Global,
+    threads: &mut T,
+    (lines, pieces, shows): &Row,
+) -> Result<(), Fail> {
+    let input = joined(alloc, pieces)?;
+    for line in *lines {
+        must_show(alloc, threads, line, input.as_str(), shows)?;
+    }
+    Ok(())
+}
+
+/// Each row is shown, with real threads. It fails with the first words that show something else, and their input.
 pub fn show<R: Threads + Wait + Send + Copy + 'static>(
     rt: R,
     alloc: Global,
@@ -83,9 +117,7 @@ pub fn show<R: Threads + Wait + Send + Copy + 'static>(
 ) -> Result<(), Fail> {
     let mut threads = RealThreads::new(rt);
     for row in rows {
-        if let Some(line) = bad_line(alloc, &mut threads, *row)? {
-            return Err((line, row.1).into());
-        }
+        show_row(alloc, &mut threads, row)?;
     }
     Ok(())
 }

@@ -1,10 +1,9 @@
 //! Runs of the top call, and what is seen of them.
 
 use adlb_command::{AnyKept, RunEnd, run_adlb};
-use adlb_io::{FreeGate, Gate, Spawner, SteadySink, SteadySource};
+use adlb_io::{FreeGate, Gate, MemorySink, Sink, Source, Spawner, SteadySink, SteadySource};
 use bag_ledger::Entry;
 use ledger_checker::first_illegal;
-use run_command::Kept;
 use std::alloc::Global;
 use std::test::Fail;
 
@@ -17,6 +16,8 @@ pub struct Ran {
     pub written: String,
     /// The kept ledger, a letter an entry; none where no report is kept.
     pub ledger: String,
+    /// The kept ledger is a legal run.
+    pub legal: bool,
     /// How many units the kept report has left.
     pub left: usize,
 }
@@ -27,43 +28,52 @@ impl Ran {
         self.status == 0 && self.fault.is_empty()
     }
 
-    /// It ended with this status and fault, wrote nothing and kept no report.
-    pub fn is_refused(&self, status: u8, fault: &str) -> bool {
-        self.status == status
-            && self.fault.as_str() == fault
-            && self.written.is_empty()
-            && self.ledger.is_empty()
+    /// It ended with status 0, and wrote this.
+    pub fn writes(&self, text: &str) -> bool {
+        self.is_well() && self.written.as_str() == text
+    }
+
+    /// It ended with this status and fault, and kept a report or none.
+    pub fn fails(&self, status: u8, fault: &str, kept: bool) -> bool {
+        self.status == status && self.fault.as_str() == fault && self.ledger.is_empty() != kept
     }
 }
 
 /// What is to be seen of the end of a run that wrote these bytes.
 pub fn seen(alloc: Global, end: &RunEnd, written: &[u8]) -> Result<Ran, Fail> {
-    let (ledger, left) = kept(alloc, end)?;
     Ok(Ran {
         status: end.status,
+        left: left(end),
+        legal: is_legal(alloc, end)?,
         fault: fault(alloc, end)?,
         written: String::from_utf8(written.to_vec(alloc)?).unwrap_or(String::new(alloc)),
-        ledger,
-        left,
+        ledger: ledger(alloc, end)?,
     })
 }
 
-// The kept ledger, and how many units are left.
-fn kept(alloc: Global, end: &RunEnd) -> Result<(String, usize), Fail> {
+// How many units are left.
+fn left(end: &RunEnd) -> usize {
     match &end.kept {
-        Some(AnyKept::Puzzles(kept)) => shown(alloc, kept),
-        Some(AnyKept::Tours(kept)) => shown(alloc, kept),
-        Some(AnyKept::Flows(kept)) => shown(alloc, kept),
-        None => Ok((String::new(alloc), 0)),
+        Some(AnyKept::Puzzles(kept)) => kept.report().left.len(),
+        Some(AnyKept::Tours(kept)) => kept.report().left.len(),
+        Some(AnyKept::Flows(kept)) => kept.report().left.len(),
+        None => 0,
     }
 }
 
-fn shown<O>(alloc: Global, kept: &Kept<O>) -> Result<(String, usize), Fail> {
-    let report = kept.report();
-    Ok((
-        names(alloc, &report.ledger.list(alloc)?)?,
-        report.left.len(),
-    ))
+// A ledger was kept, and is a legal run.
+fn is_legal(alloc: Global, end: &RunEnd) -> Result<bool, Fail> {
+    match &end.kept {
+        Some(kept) => Ok(first_illegal(alloc, kept.ledger(), &kept.config())?.is_none()),
+        None => Ok(false),
+    }
+}
+
+fn ledger(alloc: Global, end: &RunEnd) -> Result<String, Fail> {
+    match &end.kept {
+        Some(kept) => names(alloc, &kept.ledger().list(alloc)?),
+        None => Ok(String::new(alloc)),
+    }
 }
 
 fn fault(alloc: Global, end: &RunEnd) -> Result<String, Fail> {
@@ -108,14 +118,35 @@ pub fn words(alloc: Global, line: &str) -> Result<Vec<String>, Fail> {
     Ok(words)
 }
 
-/// A run with these words on these bytes.
-pub fn run_words<T: Spawner>(
+/// A sink that tells what it took.
+pub trait Taker: Sink {
+    fn bytes(&self) -> &[u8];
+}
+
+impl Taker for SteadySink {
+    fn bytes(&self) -> &[u8] {
+        self.taken()
+    }
+}
+
+impl Taker for MemorySink {
+    fn bytes(&self) -> &[u8] {
+        self.taken()
+    }
+}
+
+/// A run with these words from this source to this sink, whose ranks pass this gate.
+pub fn run_between<S: Source, K: Taker, T: Spawner, G: Gate + Send + Drop + 'static>(
     alloc: Global,
     threads: &mut T,
+    gate: G,
     line: &str,
-    bytes: &[u8],
+    input: &mut S,
+    output: &mut K,
 ) -> Result<Ran, Fail> {
-    run_gated(alloc, threads, FreeGate {}, line, bytes)
+    let words = words(alloc, line)?;
+    let end = run_adlb(alloc, words.as_slice(), input, output, threads, gate);
+    seen(alloc, &end, output.bytes())
 }
 
 /// A run with these words on these bytes, whose ranks pass this gate.
@@ -126,43 +157,17 @@ pub fn run_gated<T: Spawner, G: Gate + Send + Drop + 'static>(
     line: &str,
     bytes: &[u8],
 ) -> Result<Ran, Fail> {
-    let words = words(alloc, line)?;
     let mut input = SteadySource::new(bytes.to_vec(alloc)?);
     let mut output = SteadySink::new(alloc);
-    let end = run_adlb(
-        alloc,
-        words.as_slice(),
-        &mut input,
-        &mut output,
-        threads,
-        gate,
-    );
-    seen(alloc, &end, output.taken())
+    run_between(alloc, threads, gate, line, &mut input, &mut output)
 }
 
-/// A run with these words on this input writes this report, and keeps a ledger that is a legal run.
-pub fn is_legal<T: Spawner>(
+/// A run with these words on this input.
+pub fn run_words<T: Spawner>(
     alloc: Global,
     threads: &mut T,
     line: &str,
     input: &str,
-    report: &str,
-) -> Result<bool, Fail> {
-    let words = words(alloc, line)?;
-    let mut input = SteadySource::new(input.as_bytes().to_vec(alloc)?);
-    let mut output = SteadySink::new(alloc);
-    let end = run_adlb(
-        alloc,
-        words.as_slice(),
-        &mut input,
-        &mut output,
-        threads,
-        FreeGate {},
-    );
-    let Some(kept) = &end.kept else {
-        return Ok(false);
-    };
-    let config = kept.config();
-    let illegal = first_illegal(alloc, kept.ledger(), &config)?;
-    Ok(end.status == 0 && illegal.is_none() && output.taken() == report.as_bytes())
+) -> Result<Ran, Fail> {
+    run_gated(alloc, threads, FreeGate {}, line, input.as_bytes())
 }

@@ -1,6 +1,6 @@
 //! The worked rows of the top call, in line and with threads: what each command writes, and what is refused.
 
-use crate::rows::{Row, Shows, show};
+use crate::rows::{Row, Shows, is_shown, show};
 use crate::runs::run_words;
 use adlb_io::{RealThreads, Spawner};
 use std::alloc::Global;
@@ -323,20 +323,36 @@ fn counts_and_the_ledger_follow_the_report(rt: HostRuntime) -> Result<(), Fail> 
     show(rt, rt.alloc(), EXTRAS)
 }
 
+// The ledger that `solve` writes with these words on this input, from its first line on; its first word alone if there is none.
+fn ledger_text<T: Spawner>(
+    alloc: Global,
+    threads: &mut T,
+    (line, input): (&str, &str),
+) -> Result<String, Fail> {
+    let solved = run_words(alloc, threads, line, input)?;
+    let (_, text) = solved
+        .written
+        .as_str()
+        .split_once("\nledger ")
+        .unwrap_or(("", ""));
+    Ok(format!(in alloc; "ledger {text}")?)
+}
+
 // What `check` writes of the ledger that `solve` wrote with these words on this input begins so.
 fn checks<T: Spawner>(
     alloc: Global,
     threads: &mut T,
-    (line, input): (&str, &str),
+    run: (&str, &str),
     wanted: &str,
 ) -> Result<bool, Fail> {
-    let solved = run_words(alloc, threads, line, input.as_bytes())?;
-    let Some((_, text)) = solved.written.as_str().split_once("\nledger ") else {
-        return Ok(false);
-    };
-    let text = format!(in alloc; "ledger {text}")?;
-    let ran = run_words(alloc, threads, "check", text.as_str().as_bytes())?;
-    Ok(ran.written.as_str().starts_with(wanted))
+    let text = ledger_text(alloc, threads, run)?;
+    is_shown(
+        alloc,
+        threads,
+        "check",
+        text.as_str(),
+        &Shows::Frame(wanted, ""),
+    )
 }
 
 /// Words and an input, and how many entries the ledger has, which is legal.
@@ -372,29 +388,30 @@ fn makes<T: Spawner>(
     lines: usize,
     end: &str,
 ) -> Result<bool, Fail> {
-    let made = run_words(alloc, threads, line, b"x")?;
-    let solved = run_words(alloc, threads, "solve", made.written.as_str().as_bytes())?;
+    let made = run_words(alloc, threads, line, "x")?;
+    let input = made.written.as_str();
     Ok(
-        made.status == 0
-            && made.written.as_str().lines().count() == lines
-            && solved.status == 0
-            && solved.written.as_str().ends_with(end),
+        made.is_well()
+            && input.lines().count() == lines
+            && is_shown(alloc, threads, "solve", input, &Shows::Frame("", end))?,
     )
 }
+
+/// Words of `make`, how many lines it writes, and how the report on them ends.
+const MADE: &[(&str, usize, &str)] = &[
+    ("make 0 7", 0, NOTHING),
+    ("make 8 1", 12, "job 3\nanswer 3\n"),
+];
 
 #[test]
 fn makes_an_input_that_it_solves(rt: HostRuntime) -> Result<(), Fail> {
     let mut threads = RealThreads::new(rt);
-    assert!(rt; makes(rt.alloc(), &mut threads, "make 0 7", 0, NOTHING)?);
-    assert!(rt;
-        makes(
-            rt.alloc(),
-            &mut threads,
-            "make 8 1",
-            12,
-            "job 3\nanswer 3\n"
-        )?
-    );
+    for (line, lines, end) in MADE {
+        assert!(rt;
+            makes(rt.alloc(), &mut threads, line, *lines, end)?,
+            "{line}"
+        );
+    }
     Ok(())
 }
 

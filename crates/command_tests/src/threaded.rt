@@ -2,7 +2,8 @@
 
 use crate::draws::Draws;
 use crate::flows::{FIVE, FIVE_WORTH};
-use crate::runs::{is_legal, run_gated, run_words};
+use crate::rows::{Shows, is_shown, must_show};
+use crate::runs::{run_gated, run_words};
 use crate::tables::{FORCED, FORCED_SOLVED, TWO, TWO_SOLVED};
 use crate::tours::{SQUARE, SQUARE_TOURED};
 use adlb_io::{Gate, GatePoint, ListedThreads, RealThreads, Spawner};
@@ -14,10 +15,20 @@ use std::sync::{Arc, Wait};
 use std::test::Fail;
 use std::thread::Threads;
 
-// Threads of which the start of this number is refused.
-fn refusing<R: Threads + Drop>(alloc: Global, rt: R, start: u64) -> Result<ListedThreads<R>, Fail> {
-    Ok(ListedThreads::new(rt, [start].to_vec(alloc)?))
+// A run of which the start of this number is refused shows this.
+fn refused_shows<R: Threads + Wait + Send + Copy + Drop + 'static>(
+    alloc: Global,
+    rt: R,
+    start: u64,
+    (line, input): (&str, &str),
+    shows: &Shows<'_>,
+) -> Result<bool, Fail> {
+    let mut threads = ListedThreads::new(rt, [start].to_vec(alloc)?);
+    is_shown(alloc, &mut threads, line, input, shows)
 }
+
+/// What is shown where a start is refused.
+const UNSTARTED: Shows<'static> = Shows::Refused(5, "a thread could not be started");
 
 // The start of each number up to this one is refused with nothing written. There is no start of a later number, one for each rank
 // and one for each server.
@@ -29,25 +40,17 @@ fn starts<R: Threads + Wait + Send + Copy + Drop + 'static>(
     actors: u64,
 ) -> Result<bool, Fail> {
     for start in 1..actors.saturating_add(1) {
-        if !is_refused(alloc, rt, line, puzzle, start)? {
+        if !refused_shows(alloc, rt, start, (line, puzzle), &UNSTARTED)? {
             return Ok(false);
         }
     }
-    let mut threads = refusing(alloc, rt, actors.saturating_add(1))?;
-    let ran = run_words(alloc, &mut threads, line, puzzle.as_bytes())?;
-    Ok(ran.status == 0 && ran.written.as_str() == report)
-}
-
-fn is_refused<R: Threads + Wait + Send + Copy + Drop + 'static>(
-    alloc: Global,
-    rt: R,
-    line: &str,
-    puzzle: &str,
-    start: u64,
-) -> Result<bool, Fail> {
-    let mut threads = refusing(alloc, rt, start)?;
-    let ran = run_words(alloc, &mut threads, line, puzzle.as_bytes())?;
-    Ok(ran.is_refused(5, "a thread could not be started"))
+    refused_shows(
+        alloc,
+        rt,
+        actors.saturating_add(1),
+        (line, puzzle),
+        &Shows::Is(report),
+    )
 }
 
 /// Words, a puzzle with its report, and how many threads there are.
@@ -68,52 +71,43 @@ fn each_refused_start_writes_nothing(rt: HostRuntime) -> Result<(), Fail> {
     Ok(())
 }
 
-// The status of a run of which the first start is refused.
-fn status<R: Threads + Wait + Send + Copy + Drop + 'static>(
-    alloc: Global,
-    rt: R,
-    line: &str,
-) -> Result<u8, Fail> {
-    let mut threads = refusing(alloc, rt, 1)?;
-    let ran = run_words(alloc, &mut threads, line, FORCED.as_bytes())?;
-    Ok(ran.status)
-}
-
-/// What starts no thread, and how it ends.
+/// How a run ends of which the first start is refused: what starts no thread, and a drill with threads.
 const UNTHREADED: &[(&str, u8)] = &[
     ("solve --inline", 0),
     ("drill 3 4 --inline", 0),
     ("make 3 4", 0),
     ("solve frob", 2),
+    ("drill 3 4", 5),
 ];
 
 #[test]
 fn starts_nothing_in_line(rt: HostRuntime) -> Result<(), Fail> {
     for (line, wanted) in UNTHREADED {
-        assert_eq!(rt; status(rt.alloc(), rt, line)?, *wanted, "{line}");
+        let shows = Shows::Status(*wanted);
+        assert!(rt;
+            refused_shows(rt.alloc(), rt, 1, (line, FORCED), &shows)?,
+            "{line}"
+        );
     }
-    assert_eq!(rt; status(rt.alloc(), rt, "drill 3 4")?, 5);
     Ok(())
 }
 
-// A drill with these words writes this.
-fn drills<T: Spawner>(
-    alloc: Global,
-    threads: &mut T,
-    line: &str,
-    wanted: &str,
-) -> Result<bool, Fail> {
-    let ran = run_words(alloc, threads, line, b"")?;
-    Ok(ran.status == 0 && ran.written.as_str() == wanted)
-}
+/// Words of drills that write the same.
+const ALIKE: &[&str] = &["drill 24 9 --ranks 2", "drill 24 9"];
 
 #[test]
 fn drills_alike_in_line_and_with_threads(rt: HostRuntime) -> Result<(), Fail> {
     let mut threads = RealThreads::new(rt);
-    let inline = run_words(rt.alloc(), &mut threads, "drill 24 9 --inline", b"")?;
-    let wanted = inline.written.as_str();
-    assert!(rt; drills(rt.alloc(), &mut threads, "drill 24 9 --ranks 2", wanted)?);
-    assert!(rt; drills(rt.alloc(), &mut threads, "drill 24 9", wanted)?);
+    let wanted = written(rt.alloc(), &mut threads, "drill 24 9 --inline", "")?;
+    for line in ALIKE {
+        must_show(
+            rt.alloc(),
+            &mut threads,
+            line,
+            "",
+            &Shows::Is(wanted.as_str()),
+        )?;
+    }
     Ok(())
 }
 
@@ -191,8 +185,8 @@ const FOUR_SOLVED: &str = "\
     534678912672195348198342567859763421426851793713924856961537284287419635345286179\n\
     totals\nboard 12\nsolution 8\njob 0\nanswer 0\n";
 
-// How often one rank saw the other in a run, which writes the report on four puzzles.
-fn meetings<T: Spawner>(alloc: Global, threads: &mut T) -> Result<u64, Fail> {
+// Marks of ranks that have come to nothing.
+fn new_crossing(alloc: Global) -> Result<Crossing, Fail> {
     let marks = Arc::new(
         alloc,
         Marks {
@@ -202,15 +196,23 @@ fn meetings<T: Spawner>(alloc: Global, threads: &mut T) -> Result<u64, Fail> {
             met: AtomicU64::new(0),
         },
     )?;
-    let gate = Crossing {
-        marks: Arc::try_clone(&marks)?,
-    };
+    Ok(Crossing { marks })
+}
+
+// A run whose ranks pass this gate writes the report on four puzzles.
+fn solves_four<T: Spawner>(alloc: Global, threads: &mut T, gate: Crossing) -> Result<bool, Fail> {
     let line = "solve --ranks 2 --servers 1";
     let ran = run_gated(alloc, threads, gate, line, FOUR.as_bytes())?;
-    if ran.status != 0 || ran.written.as_str() != FOUR_SOLVED {
+    Ok(ran.writes(FOUR_SOLVED))
+}
+
+// How often one rank saw the other in a run.
+fn meetings<T: Spawner>(alloc: Global, threads: &mut T) -> Result<u64, Fail> {
+    let gate = new_crossing(alloc)?;
+    if !solves_four(alloc, threads, gate.twin()?)? {
         return Err("another report".into());
     }
-    Ok(marks.met.load(Ordering::SeqCst))
+    Ok(gate.marks.met.load(Ordering::SeqCst))
 }
 
 #[test]
@@ -250,43 +252,56 @@ fn written<T: Spawner>(
     line: &str,
     input: &str,
 ) -> Result<String, Fail> {
-    Ok(run_words(alloc, threads, line, input.as_bytes())?.written)
+    Ok(run_words(alloc, threads, line, input)?.written)
 }
 
-// The words of the first run on this input, split at this grain, that is not legal or does not write this report.
-fn bad_line<T: Spawner>(
+// The input that `make` writes with these numbers.
+fn made<T: Spawner>(alloc: Global, threads: &mut T, count: u32, seed: u32) -> Result<String, Fail> {
+    let line = format!(in alloc; "make {count} {seed}")?;
+    written(alloc, threads, line.as_str(), "")
+}
+
+// What the run in line that splits boards at this grain writes on this input.
+fn solved<T: Spawner>(
+    alloc: Global,
+    threads: &mut T,
+    grain: u32,
+    input: &str,
+) -> Result<String, Fail> {
+    let line = format!(in alloc; "solve --inline --grain {grain}")?;
+    written(alloc, threads, line.as_str(), input)
+}
+
+// Each run on this input, split at this grain, is legal and writes this report. It fails with the words of the first that is not.
+fn runs_are_legal<T: Spawner>(
     alloc: Global,
     threads: &mut T,
     draws: &mut Draws,
     grain: u32,
     (input, report): (&str, &str),
-) -> Result<Option<String>, Fail> {
+) -> Result<(), Fail> {
     for _ in 0..RUNS {
         let line = drawn_line(alloc, draws, grain)?;
-        if !is_legal(alloc, threads, line.as_str(), input, report)? {
-            return Ok(Some(line));
-        }
+        must_show(alloc, threads, line.as_str(), input, &Shows::Legal(report))?;
     }
-    Ok(None)
+    Ok(())
 }
 
-// The words of the first run over one made input that is not legal or does not write the report of the run in line.
-fn bad_run<T: Spawner>(
+// Each run over one made input is legal and writes the report of the run in line.
+fn input_is_legal<T: Spawner>(
     alloc: Global,
     threads: &mut T,
     draws: &mut Draws,
-) -> Result<Option<String>, Fail> {
+) -> Result<(), Fail> {
     let (count, seed) = (draws.below(10), draws.below(1000));
     let grain = match draws.below(3) {
         0 => 1,
         1 => 16,
         _ => 0x1_0000,
     };
-    let making = format!(in alloc; "make {count} {seed}")?;
-    let input = written(alloc, threads, making.as_str(), "")?;
-    let inline = format!(in alloc; "solve --inline --grain {grain}")?;
-    let report = written(alloc, threads, inline.as_str(), input.as_str())?;
-    bad_line(
+    let input = made(alloc, threads, count, seed)?;
+    let report = solved(alloc, threads, grain, input.as_str())?;
+    runs_are_legal(
         alloc,
         threads,
         draws,
@@ -304,9 +319,7 @@ fn all_are_legal<R: Threads + Wait + Send + Copy + 'static>(
     let mut threads = RealThreads::new(rt);
     let mut draws = Draws::new(seed);
     for _ in 0..INPUTS {
-        if let Some(line) = bad_run(alloc, &mut threads, &mut draws)? {
-            return Err(line.into());
-        }
+        input_is_legal(alloc, &mut threads, &mut draws)?;
     }
     Ok(())
 }

@@ -1,10 +1,10 @@
 //! Least tours: worked rows, refused lines, and drawn cities beside a search of all orders.
 
 use crate::draws::Draws;
-use crate::rows::{Row, Shows, show};
-use crate::runs::is_legal;
+use crate::rows::{Row, Shows, must_show, show};
 use adlb_io::{RealThreads, Spawner};
 use std::alloc::Global;
+use std::fmt::Write;
 use std::sync::Wait;
 use std::test::Fail;
 use std::thread::Threads;
@@ -158,54 +158,71 @@ impl Map {
 
     // The text of these cities, as an input.
     fn text(&self, alloc: Global) -> Result<String, Fail> {
-        let mut text = format!(in alloc; "cities {}\n", self.count as u64)?;
-        let mut column = 0_usize;
-        for cost in self.costs.iter() {
-            column = column.saturating_add(1);
-            let end = if column == self.count { "\n" } else { " " };
-            let word = format!(in alloc; "{cost}{end}")?;
-            text.push_str(word.as_str())?;
-            if column == self.count {
-                column = 0;
-            }
+        let mut text = format!(in alloc; "cities {}", self.count as u64)?;
+        for (place, cost) in self.costs.iter().enumerate() {
+            let before = if place % self.count.max(1) == 0 {
+                "\n"
+            } else {
+                " "
+            };
+            write!(text, "{before}{cost}")?;
         }
+        text.push_str("\n")?;
         Ok(text)
     }
 
     // The first of the cheapest tours, by going over all in the order of lists.
     fn best(&self, alloc: Global) -> Result<Vec<usize>, Fail> {
-        let mut tour = Vec::new(alloc);
-        for city in 0..self.count {
-            tour.push(city)?;
-        }
-        let mut least = self.cost(&tour);
+        let mut tour = first_tour(alloc, self.count)?;
         let mut best = tour.to_vec(alloc)?;
+        self.improve(&mut best, &mut tour)?;
+        Ok(best)
+    }
+
+    // The best tour becomes the first of the cheapest, of itself and of those that follow the other one.
+    fn improve(&self, best: &mut Vec<usize>, tour: &mut [usize]) -> Result<(), Fail> {
+        let mut least = self.cost(best);
         for _ in 0..ORDERS {
-            if !go_on(&mut tour) {
+            if !go_on(tour) {
                 break;
             }
-            let cost = self.cost(&tour);
+            let cost = self.cost(tour);
             if cost < least {
                 least = cost;
                 best.clear();
-                best.extend_from_slice(&tour)?;
+                best.extend_from_slice(tour)?;
             }
         }
-        Ok(best)
+        Ok(())
     }
 
     // What is to be said of these cities.
     fn told(&self, alloc: Global) -> Result<String, Fail> {
         let tour = self.best(alloc)?;
-        let count = self.count as u64;
-        let mut text = format!(in alloc; "cities {count}\ncost {}\ntour", self.cost(&tour))?;
-        for city in tour.iter() {
-            let word = format!(in alloc; " {}", *city as u64)?;
-            text.push_str(word.as_str())?;
-        }
-        text.push_str("\n")?;
+        let mut text = String::new(alloc);
+        self.tell(&mut text, &tour)?;
         Ok(text)
     }
+
+    // Says of these cities that this is the least tour.
+    fn tell(&self, text: &mut String, tour: &[usize]) -> Result<(), Fail> {
+        let count = self.count as u64;
+        write!(text, "cities {count}\ncost {}\ntour", self.cost(tour))?;
+        for city in tour {
+            write!(text, " {}", *city as u64)?;
+        }
+        text.push_str("\n")?;
+        Ok(())
+    }
+}
+
+// The first tour through so many cities, in the order of lists.
+fn first_tour(alloc: Global, count: usize) -> Result<Vec<usize>, Fail> {
+    let mut tour = Vec::new(alloc);
+    for city in 0..count {
+        tour.push(city)?;
+    }
+    Ok(tour)
 }
 
 // Makes the tour the next one in the order of lists, which begins with city 0 too. False: it is the last.
@@ -257,22 +274,22 @@ fn drawn_line(alloc: Global, draws: &mut Draws) -> Result<String, Fail> {
     Ok(format!(in alloc; "tour --ranks {ranks} --servers {servers} --limit {limit}")?)
 }
 
-// The text of the first drawn cities of which another tour is told, or of whose run the ledger is not legal.
-fn bad_cities<T: Spawner>(
+// A run with these words tells the least tour through these cities, and keeps a ledger that is a legal run.
+fn must_be_least<T: Spawner>(
     alloc: Global,
     threads: &mut T,
-    draws: &mut Draws,
-) -> Result<Option<String>, Fail> {
-    for _ in 0..250 {
-        let map = Map::drawn(alloc, draws)?;
-        let line = drawn_line(alloc, draws)?;
-        let text = map.text(alloc)?;
-        let told = map.told(alloc)?;
-        if !is_legal(alloc, threads, line.as_str(), text.as_str(), told.as_str())? {
-            return Ok(Some(text));
-        }
-    }
-    Ok(None)
+    map: &Map,
+    line: &str,
+) -> Result<(), Fail> {
+    let text = map.text(alloc)?;
+    let told = map.told(alloc)?;
+    must_show(
+        alloc,
+        threads,
+        line,
+        text.as_str(),
+        &Shows::Legal(told.as_str()),
+    )
 }
 
 // Of the cities that are drawn from this seed least tours are told.
@@ -283,10 +300,12 @@ fn all_are_least<R: Threads + Wait + Send + Copy + 'static>(
 ) -> Result<(), Fail> {
     let mut threads = RealThreads::new(rt);
     let mut draws = Draws::new(seed);
-    match bad_cities(alloc, &mut threads, &mut draws)? {
-        Some(text) => Err(text.into()),
-        None => Ok(()),
+    for _ in 0..250 {
+        let map = Map::drawn(alloc, &mut draws)?;
+        let line = drawn_line(alloc, &mut draws)?;
+        must_be_least(alloc, &mut threads, &map, line.as_str())?;
     }
+    Ok(())
 }
 
 #[test]

@@ -1,8 +1,8 @@
 //! Drawn flows through whole runs, with threads: what is written of them, and their ledgers.
 
 use crate::draws::Draws;
-use crate::flows::random::{Line, expected, input, made};
-use crate::runs::is_legal;
+use crate::flows::random::drawn;
+use crate::rows::{Shows, must_show};
 use adlb_io::{RealThreads, Spawner};
 use std::alloc::Global;
 use std::sync::Wait;
@@ -22,40 +22,36 @@ const WORDS: [&str; 6] = [
     "flow --ranks 6 --servers 3 --limit 200",
 ];
 
-// A run with these words writes the values of a plain evaluation, and keeps a ledger that is a legal run.
-fn is_evaluated<T: Spawner>(
+// A run with these words on a drawn flow writes the values of a plain evaluation, and keeps a ledger that is a legal run.
+fn must_be_evaluated<T: Spawner>(
     alloc: Global,
     threads: &mut T,
     words: &str,
-    lines: &[Line],
-) -> Result<bool, Fail> {
-    let given = input(alloc, lines)?;
-    let worth = expected(alloc, lines)?;
-    is_legal(alloc, threads, words, given.as_str(), worth.as_str())
+    draws: &mut Draws,
+) -> Result<(), Fail> {
+    let (given, worth) = drawn(alloc, draws)?;
+    must_show(
+        alloc,
+        threads,
+        words,
+        given.as_str(),
+        &Shows::Legal(worth.as_str()),
+    )
 }
 
-// The input of the first flow of this seed of whose run something else is written, or the ledger is not legal.
-fn bad_flow<T: Spawner>(alloc: Global, threads: &mut T, seed: u64) -> Result<Option<String>, Fail> {
-    let mut draws = Draws::new(seed);
-    for number in 0..FLOWS {
-        let lines = made(alloc, &mut draws)?;
-        if !is_evaluated(alloc, threads, WORDS[number % 6], lines.as_slice())? {
-            return Ok(Some(input(alloc, lines.as_slice())?));
-        }
-    }
-    Ok(None)
-}
-
-// Of the flows that are drawn from this seed the values of a plain evaluation are written.
+// Of the flows that are drawn from this seed the values of a plain evaluation are written. It fails with the input of the first
+// of whose run something else is written, or the ledger is not legal.
 fn all_are_evaluated<R: Threads + Wait + Send + Copy + 'static>(
     rt: R,
     alloc: Global,
     seed: u64,
 ) -> Result<(), Fail> {
-    match bad_flow(alloc, &mut RealThreads::new(rt), seed)? {
-        Some(input) => Err(input.into()),
-        None => Ok(()),
+    let mut threads = RealThreads::new(rt);
+    let mut draws = Draws::new(seed);
+    for number in 0..FLOWS {
+        must_be_evaluated(alloc, &mut threads, WORDS[number % 6], &mut draws)?;
     }
+    Ok(())
 }
 
 #[test]

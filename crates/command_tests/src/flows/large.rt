@@ -1,6 +1,6 @@
 //! Flows of as many definitions as there may be: a chain in reverse order, the chain shuffled, and a tree.
 
-use crate::flows::texts::told;
+use crate::flows::texts::{is_told, told};
 use std::alloc::Global;
 use std::fmt::Write;
 use std::test::Fail;
@@ -21,63 +21,100 @@ fn write_name(text: &mut String, number: usize) -> Result<(), Fail> {
     Ok(())
 }
 
-fn write_rule(text: &mut String, number: usize, left: usize, right: usize) -> Result<(), Fail> {
-    text.push_str("rule ")?;
-    write_name(text, number)?;
-    text.push_str(" add ")?;
-    write_name(text, left)?;
-    text.push_str(" ")?;
-    write_name(text, right)?;
-    text.push_str("\n")?;
+/// Words, each followed by the name of a number, and the end.
+fn write_words(text: &mut String, words: &[(&str, usize)], end: &str) -> Result<(), Fail> {
+    for (word, number) in words {
+        text.push_str(word)?;
+        write_name(text, *number)?;
+    }
+    text.push_str(end)?;
     Ok(())
 }
 
+fn write_rule(text: &mut String, number: usize, left: usize, right: usize) -> Result<(), Fail> {
+    let words = [("rule ", number), (" add ", left), (" ", right)];
+    write_words(text, &words, "\n")
+}
+
 fn write_one(text: &mut String, number: usize) -> Result<(), Fail> {
-    text.push_str("let ")?;
-    write_name(text, number)?;
-    text.push_str(" 1\n")?;
-    Ok(())
+    write_words(text, &[("let ", number)], " 1\n")
 }
 
 /// Number n of a chain is one more than number n + 1; the last two are 1.
 fn write_link(text: &mut String, number: usize) -> Result<(), Fail> {
     if number >= COUNT - 2 {
-        return write_one(text, number);
+        write_one(text, number)
+    } else {
+        write_rule(text, number, number.saturating_add(1), COUNT - 1)
     }
-    write_rule(text, number, number.saturating_add(1), COUNT - 1)
 }
 
 /// Number n of a tree is the sum of numbers 2 n + 1 and 2 n + 2; a leaf is 1.
 fn write_node(text: &mut String, number: usize) -> Result<(), Fail> {
     let left = number.saturating_mul(2).saturating_add(1);
-    if left.saturating_add(1) >= COUNT {
-        return write_one(text, number);
+    let right = left.saturating_add(1);
+    if right >= COUNT {
+        write_one(text, number)
+    } else {
+        write_rule(text, number, left, right)
     }
-    write_rule(text, number, left, left.saturating_add(1))
 }
 
-/// The output of the first name, and of all.
-fn ends(output: &str, first: &str) -> bool {
-    output.starts_with(first) && output.ends_with("\ndone 100000 waits 0\n")
+#[derive(Clone, Copy)]
+enum Shape {
+    Chain,
+    Shuffled,
+    Tree,
 }
+
+impl Shape {
+    fn write(self, text: &mut String, number: usize) -> Result<(), Fail> {
+        match self {
+            Shape::Chain => write_link(text, number),
+            Shape::Shuffled => write_link(text, number.saturating_mul(STRIDE) % COUNT),
+            Shape::Tree => write_node(text, number),
+        }
+    }
+}
+
+/// As many definitions as there may be, and this.
+fn written(alloc: Global, shape: Shape, more: &str) -> Result<String, Fail> {
+    let mut text = String::new(alloc);
+    for number in 0..COUNT {
+        shape.write(&mut text, number)?;
+    }
+    text.push_str(more)?;
+    Ok(text)
+}
+
+/// What such an input comes to begins with the output of this name, and ends with the count of all.
+fn begins(alloc: Global, shape: Shape, first: &str) -> Result<bool, Fail> {
+    let text = written(alloc, shape, "")?;
+    let output = told(alloc, text.as_bytes())?;
+    Ok(output.as_str().starts_with(first) && output.as_str().ends_with("\ndone 100000 waits 0\n"))
+}
+
+/// A definition more is refused.
+fn is_refused(alloc: Global) -> Result<bool, Fail> {
+    let text = written(alloc, Shape::Chain, "let another 1\n")?;
+    is_told(alloc, text.as_bytes(), "line 100001: many")
+}
+
+/// A shape, and the output of the first name.
+const SHAPES: &[(Shape, &str)] = &[
+    (Shape::Chain, "aaaa = 99999\n"),
+    (Shape::Shuffled, "aaaa = 99999\n"),
+    (Shape::Tree, "aaaa = 50000\n"),
+];
 
 #[test]
 fn chains_and_trees_of_all_definitions(rt: HostRuntime) -> Result<(), Fail> {
-    let alloc = rt.alloc();
-    let mut chain = String::new(alloc);
-    let mut shuffled = String::new(alloc);
-    let mut tree = String::new(alloc);
-    let mut place = 0usize;
-    for number in 0..COUNT {
-        write_link(&mut chain, number)?;
-        write_link(&mut shuffled, place % COUNT)?;
-        write_node(&mut tree, number)?;
-        place = place.wrapping_add(STRIDE) % COUNT;
+    for (place, (shape, first)) in SHAPES.iter().enumerate() {
+        assert!(rt;
+            begins(rt.alloc(), *shape, first)?,
+            "shape {place}: {first}"
+        );
     }
-    assert!(rt; ends(told(alloc, chain.as_bytes())?.as_str(), "aaaa = 99999\n"));
-    assert!(rt; ends(told(alloc, shuffled.as_bytes())?.as_str(), "aaaa = 99999\n"));
-    assert!(rt; ends(told(alloc, tree.as_bytes())?.as_str(), "aaaa = 50000\n"));
-    chain.push_str("let another 1\n")?;
-    assert!(rt; told(alloc, chain.as_bytes())?.as_str() == "line 100001: many");
+    assert!(rt; is_refused(rt.alloc())?);
     Ok(())
 }

@@ -31,7 +31,7 @@ const OPS: [&str; 5] = ["add", "mul", "min", "max", "xor"];
 
 /// A definition: a value, or an operation and the places of its inputs.
 #[derive(Clone, Copy)]
-pub enum Line {
+enum Line {
     Let(u64),
     Rule(usize, usize, usize),
 }
@@ -76,54 +76,63 @@ fn turn(alloc: Global, values: &[Option<u64>], lines: &[Line]) -> Result<Vec<Opt
     Ok(next)
 }
 
-/// The output by as many turns as there are definitions.
-pub fn expected(alloc: Global, lines: &[Line]) -> Result<String, Fail> {
+/// What all names are worth, by as many turns as there are definitions.
+fn values(alloc: Global, lines: &[Line]) -> Result<Vec<Option<u64>>, Fail> {
     let mut values = Vec::new(alloc);
     for _ in lines {
         values = turn(alloc, values.as_slice(), lines)?;
     }
-    let mut text = String::new(alloc);
-    let mut done = 0u64;
-    let mut waits = 0u64;
-    for (place, value) in values.iter().enumerate() {
-        match value {
-            Some(value) => {
-                writeln!(text, "{} = {value}", name(place))?;
-                done = done.wrapping_add(1);
-            }
-            None => {
-                writeln!(text, "{} waits", name(place))?;
-                waits = waits.wrapping_add(1);
-            }
-        }
+    Ok(values)
+}
+
+/// The output of one name.
+fn tell(text: &mut String, place: usize, value: Option<u64>) -> Result<(), Fail> {
+    match value {
+        Some(value) => Ok(writeln!(text, "{} = {value}", name(place))?),
+        None => Ok(writeln!(text, "{} waits", name(place))?),
     }
+}
+
+fn tell_all(text: &mut String, values: &[Option<u64>]) -> Result<(), Fail> {
+    let mut done = 0u64;
+    for (place, value) in values.iter().enumerate() {
+        tell(text, place, *value)?;
+        done = done.saturating_add(u64::from(value.is_some()));
+    }
+    let waits = (values.len() as u64).saturating_sub(done);
     writeln!(text, "done {done} waits {waits}")?;
+    Ok(())
+}
+
+/// The output of these definitions.
+fn expected(alloc: Global, lines: &[Line]) -> Result<String, Fail> {
+    let mut text = String::new(alloc);
+    tell_all(&mut text, &values(alloc, lines)?)?;
     Ok(text)
 }
 
+/// The input that is this definition of the name at the place.
+fn write_line(text: &mut String, place: usize, line: Line) -> Result<(), Fail> {
+    match line {
+        Line::Let(value) => Ok(writeln!(text, "let {} {value}", name(place))?),
+        Line::Rule(op, left, right) => {
+            let (op, to) = (OPS[op % 5], name(place));
+            Ok(writeln!(text, "rule {to} {op} {} {}", name(left), name(right))?)
+        }
+    }
+}
+
 /// The input of these definitions.
-pub fn input(alloc: Global, lines: &[Line]) -> Result<String, Fail> {
+fn input(alloc: Global, lines: &[Line]) -> Result<String, Fail> {
     let mut text = String::new(alloc);
     for (place, line) in lines.iter().enumerate() {
-        match line {
-            Line::Let(value) => writeln!(text, "let {} {value}", name(place))?,
-            Line::Rule(op, left, right) => {
-                let op = OPS[*op % 5];
-                writeln!(
-                    text,
-                    "rule {} {op} {} {}",
-                    name(place),
-                    name(*left),
-                    name(*right)
-                )?;
-            }
-        }
+        write_line(&mut text, place, *line)?;
     }
     Ok(text)
 }
 
 /// Up to 15 definitions: a name may be used before it is defined, of itself, or be no name of a definition.
-pub fn made(alloc: Global, draws: &mut Draws) -> Result<Vec<Line>, Fail> {
+fn made(alloc: Global, draws: &mut Draws) -> Result<Vec<Line>, Fail> {
     let mut lines = Vec::new(alloc);
     for _ in 0..draws.below(16) {
         if draws.below(3) == 0 {
@@ -139,15 +148,22 @@ pub fn made(alloc: Global, draws: &mut Draws) -> Result<Vec<Line>, Fail> {
     Ok(lines)
 }
 
+/// A drawn input, and its output by a plain evaluation.
+pub fn drawn(alloc: Global, draws: &mut Draws) -> Result<(String, String), Fail> {
+    let lines = made(alloc, draws)?;
+    let text = input(alloc, &lines)?;
+    Ok((text, expected(alloc, &lines)?))
+}
+
 #[test]
 fn a_thousand_flows_are_evaluated(rt: HostRuntime) -> Result<(), Fail> {
-    let alloc = rt.alloc();
     let mut draws = Draws::new(SEED);
     for _ in 0..1000 {
-        let lines = made(alloc, &mut draws)?;
-        let text = input(alloc, lines.as_slice())?;
-        let plain = expected(alloc, lines.as_slice())?;
-        assert!(rt; is_told(alloc, text.as_bytes(), plain.as_str())?);
+        let (text, plain) = drawn(rt.alloc(), &mut draws)?;
+        assert!(rt;
+            is_told(rt.alloc(), text.as_bytes(), plain.as_str())?,
+            "{text}"
+        );
     }
     Ok(())
 }
