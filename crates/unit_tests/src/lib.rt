@@ -2,10 +2,10 @@
 //!
 //! It holds tests alone, in a crate of their own so that what they test is not proved again with them: of `adlb_unit`,
 //! `adlb_io`, `bag_ledger`, `command_words`, `ledger_file`, `ledger_rules`, `ledger_command`, `ledger_stats` and
-//! `draw_command`, and in `jobs` of what reads, makes, works and reports puzzles, jobs and tours. They show which numbers and targets are taken, what is
-//! permitted, and that what is heavy has a twin. Bytes are read and written, and threads are started. Words are
-//! accepted or not, lines of a text are refused, and of each rule that an entry breaks something is said. A check and a
-//! drawing of a ledger end in each way.
+//! `draw_command`, and in `jobs` of what reads, makes, works and reports puzzles, jobs and tours. They show which
+//! numbers and targets are taken, what is permitted, and that what is heavy has a twin. Bytes are read and written, and
+//! threads are started. Words are accepted or not, lines of a text are refused, and of each rule that an entry breaks
+//! something is said. A check and a drawing of a ledger end in each way.
 #![tactic(auto)]
 
 #[cfg(test)]
