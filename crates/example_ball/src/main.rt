@@ -9,12 +9,11 @@ use adlb::units::Rank as RankName;
 use adlb::{Adlb, Payload, Rank, RankProgram, Reply, Taken, Target, Trouble, Types, WorkType};
 use std::alloc::Global;
 
-fn main(rt: HostRuntime) -> std::io::Result<()> {
+fn main(rt: HostRuntime) -> Result<(), adlb::Failure> {
     let alloc = rt.alloc();
-    match adlb::run_each(alloc, rt, adlb::Settings::default(), Player { alloc }) {
-        Ok(report) => println!(rt; "throws of each rank: {:?}", report.outcomes),
-        Err(fault) => println!(rt; "{fault}"),
-    }
+    let report = adlb::run_each(alloc, rt, adlb::Settings::default(), Player { alloc })?;
+    println!(rt; "throws of each rank: {:?}", report.outcomes)?;
+    Ok(())
 }
 
 const BALL: WorkType = WorkType(0);

@@ -3,8 +3,7 @@
 
 ghost use Rattle.std.specs.Prelude.{length};
 
-use adlb::{NoMemory, Settings, Units, Work, run};
-use std::io;
+use adlb::{Failure, NoMemory, Settings, Units, Work, run};
 
 #[derive(Clone, Copy)]
 struct Letters;
@@ -29,9 +28,8 @@ impl Work for Letters {
     }
 }
 
-fn main(rt: HostRuntime) -> io::Result<()> {
-    match run(rt.alloc(), rt, Settings::default(), Letters) {
-        Ok(total) => println!(rt; "{total} letters"),
-        Err(fault) => println!(rt; "{fault}"),
-    }
+fn main(rt: HostRuntime) -> Result<(), Failure> {
+    let total = run(rt.alloc(), rt, Settings::default(), Letters)?;
+    println!(rt; "{total} letters")?;
+    Ok(())
 }

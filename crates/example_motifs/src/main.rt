@@ -9,8 +9,7 @@ ghost use Rattle.example_motifs.specs.Texts.{whole, worth};
 ghost use Rattle.example_motifs.specs.declared.texts.TheConstants.{TEXT};
 
 use adlb::units::Rank;
-use adlb::{Batch, NoMemory, Payload, Settings, Target, Units, gather_batch, or_no_memory};
-use std::io;
+use adlb::{Batch, Failure, NoMemory, Payload, Settings, Target, Units, gather_batch, or_no_memory};
 use texts::{MOTIFS, TEXT, times};
 
 #[derive(Clone, Copy)]
@@ -57,15 +56,11 @@ impl Batch for Motifs {
     }
 }
 
-fn main(rt: HostRuntime) -> io::Result<()> {
-    match gather_batch(rt.alloc(), rt, Settings::default(), Motifs { all: MOTIFS }) {
-        Ok(mut found) => {
-            found.sort()?;
-            for (motif, count) in &found {
-                println!(rt; "motif {motif} stands {count} times")?;
-            }
-            Ok(())
-        }
-        Err(fault) => println!(rt; "{fault}"),
+fn main(rt: HostRuntime) -> Result<(), Failure> {
+    let mut found = gather_batch(rt.alloc(), rt, Settings::default(), Motifs { all: MOTIFS })?;
+    or_no_memory(found.sort())?;
+    for (motif, count) in &found {
+        println!(rt; "motif {motif} stands {count} times")?;
     }
+    Ok(())
 }

@@ -4,18 +4,18 @@
 mod boards;
 mod queens;
 
+use adlb::Failure;
 use queens::ways;
-use std::{env, io};
+use std::env;
 
-fn main(rt: HostRuntime) -> io::Result<()> {
+fn main(rt: HostRuntime) -> Result<(), Failure> {
     let mut words = env::args(&rt)?.skip(1);
     let (Some(side @ 0..=15), Some(ranks)) = (number(words.next()), number(words.next())) else {
-        return println!(rt; "usage: example_queens SIDE RANKS, with a side of at most 15");
+        return Err(Failure::Reason("usage: example_queens SIDE RANKS, with a side of at most 15"));
     };
-    match ways(rt.alloc(), rt, side as u8, ranks) {
-        Ok(total) => println!(rt; "{total} ways to place {side} queens"),
-        Err(fault) => println!(rt; "{fault}"),
-    }
+    let total = ways(rt.alloc(), rt, side as u8, ranks)?;
+    println!(rt; "{total} ways to place {side} queens")?;
+    Ok(())
 }
 
 fn number(word: Option<String>) -> Option<u32> {

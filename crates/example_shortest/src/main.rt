@@ -3,17 +3,13 @@
 
 mod printer;
 
+use adlb::Failure;
 use printer::print_all;
-use std::io;
 
-fn main(rt: HostRuntime) -> io::Result<()> {
-    match print_all(rt.alloc(), rt, &[9, 2, 14, 5, 1, 7]) {
-        Ok(printed) => {
-            for pages in &printed {
-                println!(rt; "a job of {pages} pages")?;
-            }
-            Ok(())
-        }
-        Err(fault) => println!(rt; "{fault}"),
+fn main(rt: HostRuntime) -> Result<(), Failure> {
+    let printed = print_all(rt.alloc(), rt, &[9, 2, 14, 5, 1, 7])?;
+    for pages in &printed {
+        println!(rt; "a job of {pages} pages")?;
     }
+    Ok(())
 }

@@ -3,8 +3,7 @@
 
 ghost use Rattle.example_template.specs.Worth.{worth};
 
-use adlb::{NoMemory, Settings, Units, Work, run};
-use std::io;
+use adlb::{Failure, NoMemory, Settings, Units, Work, run};
 
 /// The work. Each rank has a copy of it.
 #[derive(Clone, Copy)]
@@ -31,9 +30,8 @@ impl Work for Letters {
     }
 }
 
-fn main(rt: HostRuntime) -> io::Result<()> {
-    match run(rt.alloc(), rt, Settings::default(), Letters) {
-        Ok(total) => println!(rt; "{total}"),
-        Err(fault) => println!(rt; "{fault}"),
-    }
+fn main(rt: HostRuntime) -> Result<(), Failure> {
+    let total = run(rt.alloc(), rt, Settings::default(), Letters)?;
+    println!(rt; "{total}")?;
+    Ok(())
 }
