@@ -20,12 +20,22 @@ use std::marker::Model;
 
 /// All actors of a run, stepped by hand. Contracts see it as a `Seen`: the world of `core_run`, and the trouble with which it
 /// has failed, if it has.
-#[derive(Drop)]
 pub struct World {
     pub(crate) stage: Stage,
     // What an event of a rank gave last, which is lent to the next.
     pub(crate) step: ClientStep,
     pub(crate) trouble: Option<Trouble>,
+}
+
+// By hand, so that whoever holds a world lets it go by one call, and does not look at what is in it.
+impl Drop for World {
+    fn drop(self) {
+        let World {
+            stage,
+            step,
+            trouble,
+        } = self;
+    }
 }
 
 impl Model for World {
@@ -109,6 +119,11 @@ impl World {
         ensures ledger { result.0 ≡ self.world.ledger }
         ensures transcript { result.1.items ≡ transcript self.world rank }
     {
-        self.stage.into_parts(rank)
+        let World {
+            stage,
+            step,
+            trouble,
+        } = self;
+        stage.into_parts(rank)
     }
 }

@@ -9,8 +9,12 @@ use queens::ways;
 use std::env;
 
 fn main(rt: HostRuntime) -> Result<(), Failure> {
-    let mut words = env::args(&rt)?.skip(1);
-    let (Some(side @ 0..=15), Some(ranks)) = (number(words.next()), number(words.next())) else {
+    let mut words = env::args(&rt)?;
+    words.next();
+    let side = number(words.next());
+    let ranks = number(words.next());
+    drop(words);
+    let (Some(side @ 0..=15), Some(ranks)) = (side, ranks) else {
         return Err(Failure::Reason("usage: example_queens SIDE RANKS, with a side of at most 15"));
     };
     let total = ways(rt.alloc(), rt, side as u8, ranks)?;

@@ -30,7 +30,6 @@ pub struct LeftUnit {
 }
 
 /// One server of a run.
-#[derive(Drop)]
 pub struct ServerState {
     pub(crate) config: Config,
     pub(crate) me: Server,
@@ -52,6 +51,29 @@ pub struct ServerState {
     pub(crate) sent: Vec<u64>,
     pub(crate) trouble: Option<Trouble>,
     pub(crate) alloc: Global,
+}
+
+// By hand, so that whoever holds a server lets it go by one call, and does not look at what it keeps.
+impl Drop for ServerState {
+    fn drop(self) {
+        let ServerState {
+            config,
+            me,
+            queue,
+            parts,
+            parked,
+            pushes,
+            finished,
+            done,
+            ring,
+            noted,
+            activity,
+            clock,
+            sent,
+            trouble,
+            alloc,
+        } = self;
+    }
 }
 
 impl Model for ServerState {
