@@ -9,7 +9,9 @@ ghost use Rattle.example_motifs.specs.Texts.{whole, worth};
 ghost use Rattle.example_motifs.specs.declared.texts.TheConstants.{TEXT};
 
 use adlb::units::Rank;
-use adlb::{Batch, Failure, NoMemory, Payload, Settings, Target, Units, gather_batch, or_no_memory};
+use adlb::{
+    Batch, Failure, NoMemory, Payload, Settings, Target, Units, gather_batch, or_no_memory,
+};
 use texts::{MOTIFS, TEXT, times};
 
 #[derive(Clone, Copy)]
