@@ -4,6 +4,7 @@ ghost use Rattle.std.specs.Prelude.{◌≡◌};
 
 use crate::faults::Fault;
 use adlb_unit::NoMemory;
+use std::alloc::AllocError;
 use std::{fmt, io};
 use thiserror::Error;
 
@@ -46,6 +47,17 @@ impl From<NoMemory> for Failure {
     ghost from_gives = { λ _ failure. failure ≡ Run Memory };
 
     fn from(_: NoMemory) -> Failure {
+        Failure::Run(Fault::Memory)
+    }
+}
+
+impl From<AllocError> for Failure {
+    ghost use Rattle.adlb.specs.declared.failures.Failure.TheVariants.{Run};
+    ghost use Rattle.adlb.specs.declared.faults.Fault.TheVariants.{Memory};
+
+    ghost from_gives = { λ _ failure. failure ≡ Run Memory };
+
+    fn from(_: AllocError) -> Failure {
         Failure::Run(Fault::Memory)
     }
 }

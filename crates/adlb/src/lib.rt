@@ -3,8 +3,8 @@
 //! A program says what its units are and what each is worth (`Work`), and `run` works them. What all ranks count together is then
 //! what the first units are worth, for every number of ranks and servers, in whatever order letters come. If units give answers, it says
 //! how many that pass a test (`Answers`), and `gather` gives them all, each once. A program that makes the calls of a rank itself
-//! (`RankProgram`, over `Rank` or `Adlb`) is run by `run_each`. What fails, `main` may return as a `Failure`. It stands on the worker of `adlb_work`, the calls of `adlb_rank` and the
-//! threads of `adlb_threads`.
+//! (`RankProgram`, over `Rank` or `Adlb`) is run by `run_each`. What fails, `main` may return as a `Failure`. It stands on the worker of
+//! `adlb_work`, the calls of `adlb_rank` and the threads of `adlb_threads`.
 #![tactic(auto)]
 
 mod failures;

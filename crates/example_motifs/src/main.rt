@@ -60,7 +60,7 @@ impl Batch for Motifs {
 
 fn main(rt: HostRuntime) -> Result<(), Failure> {
     let mut found = gather_batch(rt.alloc(), rt, Settings::default(), Motifs { all: MOTIFS })?;
-    or_no_memory(found.sort())?;
+    found.sort()?;
     for (motif, count) in &found {
         println!(rt; "motif {motif} stands {count} times")?;
     }

@@ -10,6 +10,7 @@ use std::env;
 
 fn main(rt: HostRuntime) -> Result<(), Failure> {
     let mut words = env::args(&rt)?;
+    // The first is the program's name.
     words.next();
     let side = number(words.next());
     let ranks = number(words.next());

@@ -19,11 +19,17 @@ use std::mem;
 const CHUNK_SIZE: usize = 1 << 18;
 
 /// Entries with the stamps of their events, in order. They are seen as `KeptModel`, with the bytes that there is room for.
-#[derive(Drop)]
 pub struct Kept {
     full: Vec<Chunk>,
     last: Chunk,
     alloc: Global,
+}
+
+// By hand, so that whoever holds entries lets them go by one call, and does not look at how they lie.
+impl Drop for Kept {
+    fn drop(self) {
+        let Kept { full, last, alloc } = self;
+    }
 }
 
 impl Model for Kept {
@@ -94,15 +100,16 @@ impl Kept {
     pub fn into_unread(self) -> Unread
         ensures { result ≡ self.entries }
     {
-        let mut full = VecDeque::from(self.full);
+        let Kept { full, last, alloc } = self;
+        let mut full = VecDeque::from(full);
         match full.pop_front() {
             Some(first) => Unread {
                 current: first.into_rest(),
                 full,
-                last: Some(self.last),
+                last: Some(last),
             },
             None => Unread {
-                current: self.last.into_rest(),
+                current: last.into_rest(),
                 full,
                 last: None,
             },

@@ -23,7 +23,6 @@ use std::alloc::Global;
 use std::marker::Model;
 
 /// One rank as its client sees it: what is beneath every implementation of `Adlb`.
-#[derive(Drop)]
 pub struct ClientCore {
     pub(crate) config: Config,
     pub(crate) me: Rank,
@@ -43,6 +42,13 @@ pub struct ClientCore {
     // Room for the letters of Finish.
     pub(crate) farewell: Vec<Sending>,
     pub(crate) alloc: Global,
+}
+
+// By hand, so that whoever holds a client lets it go by one call, and does not look at what it keeps.
+impl Drop for ClientCore {
+    fn drop(self) {
+        self.into_transcript();
+    }
 }
 
 impl Model for ClientCore {
@@ -92,7 +98,26 @@ impl ClientCore {
     pub fn into_transcript(self) -> Trace<Said>
         ensures { result.items ≡ self.transcript }
     {
-        self.said.into_calls()
+        let ClientCore {
+            config,
+            me,
+            pending,
+            room,
+            next,
+            puts,
+            batch,
+            accepted,
+            end,
+            handles,
+            clock,
+            sent,
+            finished,
+            said,
+            trouble,
+            farewell,
+            alloc,
+        } = self;
+        said.into_calls()
     }
 
     /// What made the client fail, if anything did.

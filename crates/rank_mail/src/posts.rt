@@ -12,10 +12,16 @@ use std::marker::Model;
 use std::sync::Wait;
 
 /// By which an actor sends letters, to each actor of its making. Contracts see it as `PostModel`.
-#[derive(Drop)]
 pub struct Post {
     number: u32,
     lines: Vec<Line>,
+}
+
+// By hand, so that whoever holds a post lets it go by one call, and does not look at its lines.
+impl Drop for Post {
+    fn drop(self) {
+        let Post { number, lines } = self;
+    }
 }
 
 impl Model for Post {

@@ -37,7 +37,6 @@ pub enum AddFault {
 /// The units of one server in arrival order, each with its pin. Beside them are the room that is promised to
 /// units on their way and the bytes of common parts, all within a limit of bytes. Contracts see it as a `Queue`
 /// of `specs/Queue.antt`. Only `add` and `promise` take memory.
-#[derive(Drop)]
 pub struct WorkQueue {
     // The units, each under a key that it keeps as long as it stays.
     pub(crate) slots: Slab<Placed>,
@@ -54,6 +53,23 @@ pub struct WorkQueue {
     pub(crate) charge: u64,
     pub(crate) arrivals: u64,
     pub(crate) limit: u64,
+}
+
+// By hand, so that whoever holds a queue lets it go by one call, and does not look at how it holds its units.
+impl Drop for WorkQueue {
+    fn drop(self) {
+        let WorkQueue {
+            slots,
+            order,
+            index,
+            names,
+            rooms,
+            common,
+            charge,
+            arrivals,
+            limit,
+        } = self;
+    }
 }
 
 impl Model for WorkQueue {

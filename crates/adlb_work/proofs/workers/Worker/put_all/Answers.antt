@@ -9,20 +9,6 @@ returns-in-Ok-Ended-clause-passes g c = λ eye.
     stops _ _ _ _ _ _ _ _ (c.in-Ok-Ended.ensures.passes eye _ 0 (waits _ _ _ _ _ _ _ _ (c.units.invariant.going eye) (omega (arith, sum))))
     c.in-Ok-Ended.field-0-is
 
-pub units-preserved-in-Ok-More : goal.units-preserved-in-Ok-More
-units-preserved-in-Ok-More g c = record {
-  going = λ eye.
-      let f = g.D.Duty.worth c.args.self.now.duty eye [] in
-      let sum = last_worth f c.units.out c.pop.new.self c.in-Some.unit c.in-Some.ensures.last in
-      waits _ _ _ _ _ _ _ _
-      (goes _ _ _ _ _ _ _ _ (c.in-Ok-More.ensures.passes eye _ 0 (waits _ _ _ _ _ _ _ _ (c.units.invariant.going eye) (omega (arith, sum))))
-      c.in-Ok-More.field-0-is) (omega arith);
-  free = search rules;
-  seat = search rules;
-  batch = search rules;
-  longer = search rules;
-}
-
 pub units-preserved : goal.units-preserved
 units-preserved g c = record {
   going = λ eye.

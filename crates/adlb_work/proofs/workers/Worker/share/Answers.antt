@@ -23,23 +23,6 @@ returns-in_default-pop-clause-passes g c = λ eye.
     (opened _ _ _ (shared_bytes c.args.common.now) _ Rejected c.in_ok-begin_batch.ensures.made.said c.in-Ok.ensures c.in-Rejected.is)
     (c.tries.invariant.going eye) (omega (arith, none)) (omega arith)
 
-pub tries-preserved-in_ok-work-in-Rejected : goal.tries-preserved-in_ok-work-in-Rejected
-tries-preserved-in_ok-work-in-Rejected g c = record {
-  going = λ eye.
-      let f = g.D.Duty.worth c.args.self.now.duty eye (shared_bytes c.args.common.now) in
-      let sum = last_worth f c.tries.units c.pop.new.self c.in-Some.unit c.in-Some.ensures.last in
-      let same = ap (λ u. g.D.Duty.worth c.args.self.now.duty eye c.shared_part.result.now u) c.bytes.ensures
-      ∙ ap (λ s. g.D.Duty.worth c.args.self.now.duty eye s c.in-Some.unit) c.shared_part.ensures in
-      refused _ _ _ (shared_bytes c.args.common.now) _ _ _ _ _ _
-      (opened _ _ _ (shared_bytes c.args.common.now) _ Rejected c.in_ok-begin_batch.ensures.made.said c.in-Ok.ensures c.in-Rejected.is)
-      (c.tries.invariant.going eye) (omega (arith, sum, same, c.in_ok-work-in-Rejected.ensures.work eye))
-      (c.in_ok-work-in-Rejected.ensures.few eye);
-  free = search rules;
-  closed = search rules;
-  seat = search rules;
-  longer = search rules;
-}
-
 pub tries-preserved : goal.tries-preserved
 tries-preserved g c = record {
   going = λ eye.

@@ -5,8 +5,8 @@ use Rattle.packed_ledger.specs.Sizes.{KeptModel}
 use Rattle.packed_ledger.specs.inside.Chunks.{IsFilled}
 use Rattle.packed_ledger.proofs.kept.Kept.into_unread.Goals as goal
 
-pub invariant_of-t-8 : goal.invariant_of-t-8
-invariant_of-t-8 c =
+pub invariant_of-t-11 : goal.invariant_of-t-11
+invariant_of-t-11 c =
     let full = c.self.inside.full.items in
     let others = c.pop_front.new.self.items in
     let same : c.from-full.result.items ≡ full = c.from-full.ensures.0 in

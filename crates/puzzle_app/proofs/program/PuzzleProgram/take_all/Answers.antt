@@ -42,17 +42,6 @@ returns-then-not-branch-clause-stopped g c =
     (subst (λ t. Takes (g.A.Adlb.link c.rounds.link).said
     (g.A.Adlb.link c.take.new.link).said t) c.in-Unit.is c.in_ok-note.ensures.takes) c.in-Ok.ensures))
 
-pub rounds-preserved-else-not-branch : goal.rounds-preserved-else-not-branch
-rounds-preserved-else-not-branch g c = record {
-  going = all_is _ _ _ c.if-not-branch.false (c.in_ok-put_all-in-Unit.ensures.told None (sym c.as_slice.ensures) []
-      (brought_is c.args.self.now _ _ c.rounds.desk c.bring.new.self c.in-Unit.note c.in-Unit.body c.rounds.invariant.going
-      (subst (λ t. Takes (g.A.Adlb.link c.rounds.link).said
-      (g.A.Adlb.link c.take.new.link).said t) c.in-Unit.is c.in_ok-note.ensures.takes) c.in-Ok.ensures));
-  whole = c.in_ok-put_all-in-Unit.ensures.kept.whole;
-  seat = c.in_ok-put_all-in-Unit.ensures.kept.seat ∙ c.in_ok-note.ensures.kept.seat ∙ c.rounds.invariant.seat;
-  batch = c.in_ok-put_all-in-Unit.ensures.kept.batch ∙ c.in_ok-note.ensures.kept.batch ∙ c.rounds.invariant.batch;
-}
-
 pub rounds-preserved : goal.rounds-preserved
 rounds-preserved g c = record {
   going = all_is _ _ _ c.if-not-branch.false (c.in_ok-put_all-in-Unit.ensures.told None (sym c.as_slice.ensures) []

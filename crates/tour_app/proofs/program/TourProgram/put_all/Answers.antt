@@ -55,19 +55,6 @@ puts-preserved-in-Accepted-2 g c =
       batch = c.in_ok-put.ensures.kept.batch ∙ c.puts.invariant.batch;
     }
 
-pub puts-preserved-in-Accepted-3 : goal.puts-preserved-in-Accepted-3
-puts-preserved-in-Accepted-3 g c =
-    let rest : Desk = record c.puts.desk { waiting = c.pop_front.new.self } in
-    let popped : Popped c.in-Some.unit c.puts.desk rest = record { first = c.in-Some.ensures.items; same = refl } in
-    let one = replied _ _ (put_of tours c.in-Some.unit) _ replies.Accepted c.in_ok-put.ensures.says c.in-Accepted.is in record {
-      going = λ after on bytes start. accepted_is c.args.self.now _ _ c.puts.desk rest c.in-Some.unit after on
-          (c.puts.invariant.going after on bytes start) popped c.in_ok-put.ensures.form one;
-      whole = c.in_ok-put.ensures.kept.whole;
-      more = grows _ _ _ _ c.puts.invariant.more one;
-      seat = c.in_ok-put.ensures.kept.seat ∙ c.puts.invariant.seat;
-      batch = c.in_ok-put.ensures.kept.batch ∙ c.puts.invariant.batch;
-    }
-
 pub puts-preserved : goal.puts-preserved
 puts-preserved g c =
     let rest : Desk = record c.puts.desk { waiting = c.pop_front.new.self } in

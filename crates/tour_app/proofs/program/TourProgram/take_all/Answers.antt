@@ -53,19 +53,6 @@ rounds-preserved g c =
       batch = c.in_ok-put_all-in-Unit.ensures.kept.batch ∙ c.in_ok-note.ensures.kept.batch ∙ c.rounds.invariant.batch;
     }
 
-pub rounds-preserved-else-not-branch : goal.rounds-preserved-else-not-branch
-rounds-preserved-else-not-branch g c =
-    let took = subst (λ t. Takes (Reserve None) (g.R.Rank.link c.rounds.link).said
-    (g.R.Rank.link c.take.new.link).said t) c.in-Unit.is c.in_ok-note.ensures.takes in
-    record {
-      going = all_is _ _ _ c.if-not-branch.false (c.in_ok-put_all-in-Unit.ensures.told None (sym c.as_slice.ensures) []
-          (brought_is c.args.self.now _ _ c.rounds.desk c.bring.new.self c.in-Unit.note c.in-Unit.body c.rounds.invariant.going took.0
-          c.in-Ok.ensures));
-      whole = c.in_ok-put_all-in-Unit.ensures.kept.whole;
-      seat = c.in_ok-put_all-in-Unit.ensures.kept.seat ∙ c.in_ok-note.ensures.kept.seat ∙ c.rounds.invariant.seat;
-      batch = c.in_ok-put_all-in-Unit.ensures.kept.batch ∙ c.in_ok-note.ensures.kept.batch ∙ c.rounds.invariant.batch;
-    }
-
 pub returns-in-Ended-clause-stopped : goal.returns-in-Ended-clause-stopped
 returns-in-Ended-clause-stopped g c =
     told_is c.args.self.now _ _ c.rounds.desk c.in-Ended.field-0 c.rounds.invariant.going
