@@ -11,8 +11,8 @@ use std::alloc::Global;
 
 fn main(rt: HostRuntime) -> Result<(), adlb::Failure> {
     let alloc = rt.alloc();
-    let report = adlb::run_each(alloc, rt, adlb::Settings::default(), Player { alloc })?;
-    println!(rt; "throws of each rank: {:?}", report.outcomes)?;
+    let throws = adlb::run_each(alloc, rt, adlb::Settings::default(), Player { alloc })?.outcomes;
+    println!(rt; "throws of each rank: {throws:?}")?;
     Ok(())
 }
 
@@ -44,7 +44,9 @@ impl Player {
         requires rank { me.0 < (R.link link.old).seat.ranks }
         ensures stays { Stays (R.link link.old) (R.link link.new) result }
     {
-        let paint = Payload::copy(self.alloc, b"red").map_err(|_| Trouble::Memory)?;
+        let Ok(paint) = Payload::copy(self.alloc, b"red") else {
+            return Err(Trouble::Memory);
+        };
         link.batch(
             paint,
             |rank: &mut R| -> Result<bool, Trouble>
@@ -63,13 +65,14 @@ impl Player {
         ensures stays { Stays (R.link link.old) (R.link link.new) result }
     {
         match link.take(&Types::any())? {
-            Taken::Unit(..) if !is_back => self.throw(link, next),
-            Taken::Unit(..) => {
-                link.done()?;
-                Ok(false)
-            }
-            Taken::NoneNow | Taken::Ended(_) => Ok(false),
+            Taken::Unit(..) => {}
+            Taken::NoneNow | Taken::Ended(_) => return Ok(false),
         }
+        if is_back {
+            link.done()?;
+            return Ok(false);
+        }
+        self.throw(link, next)
     }
 }
 

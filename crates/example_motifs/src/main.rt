@@ -12,6 +12,7 @@ use adlb::units::Rank;
 use adlb::{
     Batch, Failure, NoMemory, Payload, Settings, Target, Units, gather_batch, or_no_memory,
 };
+use std::io;
 use texts::{MOTIFS, TEXT, times};
 
 #[derive(Clone, Copy)]
@@ -61,7 +62,12 @@ impl Batch for Motifs {
 fn main(rt: HostRuntime) -> Result<(), Failure> {
     let mut found = gather_batch(rt.alloc(), rt, Settings::default(), Motifs { all: MOTIFS })?;
     found.sort()?;
-    for (motif, count) in &found {
+    tell(rt, &found)?;
+    Ok(())
+}
+
+fn tell(rt: HostRuntime, found: &[(u8, u8)]) -> io::Result<()> {
+    for (motif, count) in found {
         println!(rt; "motif {motif} stands {count} times")?;
     }
     Ok(())

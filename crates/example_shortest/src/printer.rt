@@ -31,10 +31,7 @@ impl Answers for Printer {
     }
 
     fn work(&self, job: &[u8], out: &mut Units, printed: &mut Vec<u8>) -> Result<(), NoMemory> {
-        for pages in job {
-            or_no_memory(printed.push(*pages))?;
-        }
-        Ok(())
+        or_no_memory(printed.extend_from_slice(job))
     }
 
     fn priority(&self, job: &[u8]) -> i32 {
