@@ -1,7 +1,7 @@
 //! Units and ranks that wait, pushes, common parts, one server and one rank's client, call by call and letter by letter.
 //!
 //! It holds tests alone, in a crate of their own so that what they test is not proved again with them: of `work_queue`,
-//! `batch_store`, `put_path`, `reserve_path`, `server_core` and `rank_client`.
+//! `server_components`, `server_core` and `rank_client`.
 #![tactic(auto)]
 
 #[cfg(test)]

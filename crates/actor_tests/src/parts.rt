@@ -2,13 +2,13 @@
 
 ghost use Rattle.std.specs.Prelude.{◌≤◌, length};
 ghost use Rattle.adlb_unit.specs.Limits.{body_limit};
-ghost use Rattle.batch_store.specs.Store.{part_in, size_of};
+ghost use Rattle.server_components.specs.Store.{part_in, size_of};
 
 use crate::lines::{same, same_charge};
 use crate::queue::say;
 use crate::queues::{Scene, Script, play};
 use adlb_unit::{BatchId, Payload, Rank};
-use batch_store::BatchStore;
+use server_components::BatchStore;
 use std::alloc::Global;
 use std::fmt::Write;
 use std::process::Abort;

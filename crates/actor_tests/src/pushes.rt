@@ -1,13 +1,13 @@
 //! Scripts worked by hand, at queues of limit 64.
 
 ghost use Rattle.std.specs.Prelude.{◌≡◌};
-ghost use Rattle.put_path.specs.Pushes.{is_query, is_under_way};
+ghost use Rattle.server_components.specs.Pushes.{is_query, is_under_way};
 
 use crate::lines::{same, same_charge, show};
 use crate::queue::{id, is_new, say};
 use crate::queues::{Scene, Script, play};
 use adlb_unit::{Config, Payload, Rank, Server, Target, Unit, UnitId, WorkType};
-use put_path::{Push, PushQuery, PushState, push_query, put};
+use server_components::{Push, PushQuery, PushState, push_query, put};
 use std::alloc::Global;
 use std::fmt::Write;
 use std::process::Abort;

@@ -1,13 +1,13 @@
 //! Scripts at server 0 of six ranks, worked by hand.
 
 ghost use Rattle.std.specs.Prelude.{◌≡◌, IsTrue, true};
-ghost use Rattle.reserve_path.specs.Parked.{IsAway, IsHere, IsOther, is_pending};
+ghost use Rattle.server_components.specs.Parked.{IsAway, IsHere, IsOther, is_pending};
 
 use crate::lines::{same, show};
 use crate::queue::{id, is_new, say};
 use crate::queues::{Scene, Script, play};
 use adlb_unit::{Config, Payload, Rank, Server, Target, Types, Unit, UnitId, UnitNote, WorkType};
-use reserve_path::{Parked, ReserveStep};
+use server_components::{Parked, ReserveStep};
 use std::alloc::Global;
 use std::fmt::Write;
 use std::process::Abort;

@@ -13,7 +13,7 @@ use Rattle.bag_ledger.specs.declared.entries.Said.{Said}
 use Rattle.bag_ledger.specs.Bag.{Bag, start}
 use Rattle.bag_ledger.specs.Runs.{IsRun}
 use Rattle.adlb_threads.specs.Reports.{Reported}
-use Rattle.adlb_work.specs.Worked.{AllHaveWorked, HasWorked, begins}
+use Rattle.adlb.specs.Worked.{AllHaveWorked, HasWorked, begins}
 use Rattle.adlb.specs.Runs.{IsRunOfEach}
 
 -- an element of a list of which all are so

@@ -4,12 +4,17 @@ ghost use Rattle.std.specs.Prelude.{◌≡◌, ◌≤◌, ◌↔◌, ◌^◌, �
 ghost use Rattle.adlb_io.specs.Outside.{Rises};
 ghost use Rattle.adlb_unit.specs.Limits.{Refuses, stamp_limit};
 
+use crate::answers::Answers;
+use crate::batches::Batch;
+use crate::duties::{Batching, Counting, Duty, Listing};
 use crate::faults::Fault;
+use crate::laws::worth_laws;
 use crate::runs::run_each_on;
 use crate::settings::Settings;
+use crate::work::Work;
+use crate::workers::Worker;
 use adlb_io::{RealThreads, Spawner};
 use adlb_unit::ConfigFault;
-use adlb_work::{Answers, Batch, Batching, Counting, Duty, Listing, Work, Worker, worth_laws};
 use std::alloc::Global;
 use std::sync::Wait;
 use std::thread::Threads;

@@ -24,11 +24,11 @@ use Rattle.bag_ledger.specs.declared.entries.Call.{Call}
 use Rattle.bag_ledger.specs.declared.entries.Said.{Said}
 use Rattle.fallen_law.specs.Fallen.{TellsAfter, tells_trouble}
 use Rattle.merge_history.specs.Own.{letters_to, sent}
-use Rattle.thread_client.specs.Faults.{told}
-use Rattle.thread_client.specs.Jobs.{Ended, EndsAs, last_words}
-use Rattle.thread_server.proofs.Begun.{tells_kind}
-use Rattle.thread_server.specs.Jobs.{Ended as Served, EndsAs as ServesAs, tells_of}
-use Rattle.thread_server.specs.World.{actors, server_named}
+use Rattle.thread_actors.specs.Faults.{told}
+use Rattle.thread_actors.specs.RankJobs.{Ended, EndsAs, last_words}
+use Rattle.thread_actors.proofs.ServerBegun.{tells_kind}
+use Rattle.thread_actors.specs.ServerJobs.{Ended as Served, EndsAs as ServesAs, tells_of}
+use Rattle.thread_actors.specs.World.{actors, server_named}
 use Rattle.adlb_threads.specs.Ends.{HasTold, IsCaller, absences, tells_absent}
 
 -- A rank.

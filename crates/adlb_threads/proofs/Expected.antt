@@ -38,11 +38,11 @@ use Rattle.rank_mail.specs.Mailboxes.{letters_of}
 use Rattle.server_law.specs.Carried.{Served as Handled}
 use Rattle.server_law.specs.State.{ServerModel, start as new_pool}
 use Rattle.server_law.specs.Step.{serve}
-use Rattle.thread_client.specs.Jobs.{Ended, IsCutShort}
-use Rattle.thread_client.specs.declared.faults.ActorFault.TheVariants.{Unexpected}
-use Rattle.thread_server.proofs.Begun.{comes_next}
-use Rattle.thread_server.specs.Jobs.{Ended as Served, IsBroken, IsUnexpected, came, trouble_told}
-use Rattle.thread_server.specs.World.{actors, has_ended, rank_named, server_named}
+use Rattle.thread_actors.specs.RankJobs.{Ended, IsCutShort}
+use Rattle.thread_actors.specs.declared.faults.ActorFault.TheVariants.{Unexpected}
+use Rattle.thread_actors.proofs.ServerBegun.{comes_next}
+use Rattle.thread_actors.specs.ServerJobs.{Ended as Served, IsBroken, IsUnexpected, came, trouble_told}
+use Rattle.thread_actors.specs.World.{actors, has_ended, rank_named, server_named}
 use Rattle.adlb_threads.proofs.Besides.{rank_tells, server_tells}
 use Rattle.adlb_threads.proofs.Endings.{of_rank as rank_ended, of_server as server_ended}
 use Rattle.adlb_threads.proofs.Journals.{can_merge, composed, events_at, of_both, of_map, under_map}

@@ -4,7 +4,7 @@ use Rattle.std.specs.List.{zip}
 use Rattle.adlb_unit.specs.declared.actors.Actor.{Actor}
 use Rattle.adlb_unit.specs.declared.configs.Config.{Config}
 use Rattle.actor_desk.specs.Desks.{DeskModel}
-use Rattle.thread_server.specs.World.{actors}
+use Rattle.thread_actors.specs.World.{actors}
 use Rattle.merge_history.specs.Events.{OfActor}
 use Rattle.merge_history.specs.Kept.{kept_of}
 use Rattle.merge_history.specs.Merging.{actors_of}

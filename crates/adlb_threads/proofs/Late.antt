@@ -21,11 +21,11 @@ use Rattle.merge_history.specs.Own.{Finals, IsOneHistory, got}
 use Rattle.fallen_law.proofs.Expecting.{late_many}
 use Rattle.fallen_law.proofs.Nexts.{heard_plain, served_plain}
 use Rattle.fallen_law.specs.Fallen.{WouldBear, last_stamp}
-use Rattle.thread_server.specs.World.{rank_named, server_named}
-use Rattle.thread_client.specs.Jobs.{Ended, WouldBear as StopsAt}
-use Rattle.thread_client.specs.declared.faults.ActorFault.TheVariants.{TooLong}
-use Rattle.thread_server.specs.Jobs.{BreaksBy, Ended as Served, IsBroken}
-use Rattle.thread_server.proofs.Begun.{comes_next}
+use Rattle.thread_actors.specs.World.{rank_named, server_named}
+use Rattle.thread_actors.specs.RankJobs.{Ended, WouldBear as StopsAt}
+use Rattle.thread_actors.specs.declared.faults.ActorFault.TheVariants.{TooLong}
+use Rattle.thread_actors.specs.ServerJobs.{BreaksBy, Ended as Served, IsBroken}
+use Rattle.thread_actors.proofs.ServerBegun.{comes_next}
 use Rattle.adlb_threads.specs.Ends.{AreReceived}
 use Rattle.adlb_threads.specs.inside.{AreClear, AreOwnRuns, AreRanksEnds}
 use Rattle.adlb_threads.specs.inside.{AreServersEnds, IsLateEnd, all_met, desks_of, journals_at}

@@ -10,9 +10,9 @@ use Rattle.bag_ledger.specs.declared.entries.Said.{Said}
 use Rattle.rank_client.specs.Calls.{plus}
 use Rattle.rank_client.specs.State.{start}
 use Rattle.rank_mail.proofs.Lists.{there}
-use Rattle.thread_server.specs.World.{rank_named}
-use Rattle.thread_client.specs.Jobs.{EndsAs, Ended, ended_by}
-use Rattle.thread_client.specs.declared.faults.ActorFault.{ActorFault}
+use Rattle.thread_actors.specs.World.{rank_named}
+use Rattle.thread_actors.specs.RankJobs.{EndsAs, Ended, ended_by}
+use Rattle.thread_actors.specs.declared.faults.ActorFault.{ActorFault}
 use Rattle.adlb_threads.proofs.OwnRuns.{client_same}
 use Rattle.adlb_threads.specs.inside.{IsLateEnd}
 use Rattle.adlb_threads.specs.Runs.{HasCalled, IsLateRun}

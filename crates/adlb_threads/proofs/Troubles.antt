@@ -2,11 +2,11 @@
 use Rattle.std.proofs.Common.{◌≡◌, ◌⊎◌, inl, inr, ℕ, zero, suc, Bool, true, false, List, [], ◌∷◌, Option, None, Some, IfSome, refl, ap, sym}
 use Rattle.std.proofs.Common.{◌≤◌, ◌∙◌, map, subst, slice_get}
 use Rattle.adlb_unit.specs.Limits.{stamp_limit}
-use Rattle.thread_client.specs.Faults.{IsLateFault}
-use Rattle.thread_client.specs.Jobs.{Ended}
-use Rattle.thread_server.specs.Jobs.{Ended as Served}
-use Rattle.thread_client.specs.declared.faults.ActorFault.{ActorFault}
-use Rattle.thread_client.specs.declared.faults.ActorFault.TheVariants.{Memory, TooLong, Unexpected}
+use Rattle.thread_actors.specs.Faults.{IsLateFault}
+use Rattle.thread_actors.specs.RankJobs.{Ended}
+use Rattle.thread_actors.specs.ServerJobs.{Ended as Served}
+use Rattle.thread_actors.specs.declared.faults.ActorFault.{ActorFault}
+use Rattle.thread_actors.specs.declared.faults.ActorFault.TheVariants.{Memory, TooLong, Unexpected}
 use Rattle.adlb_threads.specs.Ends.{AreExpecting}
 use Rattle.adlb_threads.specs.inside.{after_all, all_met, met_with}
 use Rattle.adlb_threads.proofs.Kept.{none_there}

@@ -10,7 +10,7 @@ use Rattle.adlb_unit.specs.declared.configs.Config.{Config}
 use Rattle.adlb_unit.specs.declared.names.Rank.{Rank}
 use Rattle.adlb_unit.specs.declared.names.Server.{Server}
 use Rattle.actor_desk.specs.Desks.{Begins, DeskModel}
-use Rattle.thread_server.specs.World.{actors, rank_named, server_named}
+use Rattle.thread_actors.specs.World.{actors, rank_named, server_named}
 use Rattle.merge_history.specs.Events.{Event}
 use Rattle.merge_history.specs.Own.{ClientWalks, Finals, IsOwnRun, IsTimed, PoolWalks}
 use Rattle.rank_client.specs.State.{ClientModel, start as new_client}

@@ -14,10 +14,10 @@ use Rattle.actor_desk.specs.Desks.{DeskModel, IsNew, sent_at}
 use Rattle.merge_history.specs.Own.{letters_to}
 use Rattle.rank_mail.specs.declared.posted.Posted.{Posted}
 use Rattle.rank_mail.specs.Mailboxes.{letters_of}
-use Rattle.thread_client.specs.declared.faults.ActorFault.TheVariants.{Unexpected}
-use Rattle.thread_client.specs.Jobs.{EndsAs, Ended}
-use Rattle.thread_server.specs.Jobs.{EndsAs as ServesAs, Ended as Served}
-use Rattle.thread_server.specs.World.{actors, rank_named, server_named}
+use Rattle.thread_actors.specs.declared.faults.ActorFault.TheVariants.{Unexpected}
+use Rattle.thread_actors.specs.RankJobs.{EndsAs, Ended}
+use Rattle.thread_actors.specs.ServerJobs.{EndsAs as ServesAs, Ended as Served}
+use Rattle.thread_actors.specs.World.{actors, rank_named, server_named}
 
 -- the caller tells an actor of this number that ranks were not started, if it is a server, and nothing else
 abbrev pub tells_absent : Config → ℕ → Message → Bool

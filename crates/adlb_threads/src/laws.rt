@@ -3,8 +3,8 @@
 ghost use Rattle.std.specs.Prelude.{◌+◌, ℕ, List};
 ghost use Rattle.adlb_unit.specs.declared.configs.Config.{Config};
 ghost use Rattle.actor_desk.specs.Desks.{DeskModel, IsNew};
-ghost use Rattle.thread_client.specs.Jobs.{Ended};
-ghost use Rattle.thread_server.specs.Jobs.{Ended as Served};
+ghost use Rattle.thread_actors.specs.RankJobs.{Ended};
+ghost use Rattle.thread_actors.specs.ServerJobs.{Ended as Served};
 ghost use Rattle.adlb_threads.specs.Ends.{AreExpecting, AreOfDesks, AreReceived, HasTold, HaveEnded, IsCaller, desks_of_all};
 
 /// Whatever the ranks and servers of a run in threads met, none of them ended by a letter that it did not expect. Each that was

@@ -22,7 +22,7 @@ pub enum ConfigFault {
 }
 
 /// A run's numbers: 1 to 32 ranks, 1 to 8 servers, and from 64 to `2^30` bytes that a server takes at most.
-#[derive(Clone, Copy, Debug, PartialEq, Eq)]
+#[derive(Clone, Copy, PartialEq, Eq)]
 pub struct Config {
     pub ranks: u32,
     pub servers: u32,

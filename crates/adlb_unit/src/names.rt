@@ -20,7 +20,7 @@ impl Error for NoMemory {}
 pub struct Rank(pub u32);
 
 /// A server, numbered from 0.
-#[derive(Clone, Copy, Debug, PartialEq, Eq, PartialOrd, Ord)]
+#[derive(Clone, Copy, Debug, PartialEq, Eq)]
 pub struct Server(pub u32);
 
 /// A work type: what kind of work a unit is, in the program's own numbering.

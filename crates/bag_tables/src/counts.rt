@@ -49,12 +49,23 @@ fn prio_of(server: Server, unit: &Unit) -> (u32, u32, Option<Reverse<i32>>)
 /// How many units are free: by server, type and target; by server and target; by server and type; by server, type and
 /// priority. A target counts as the rank that alone may have the unit, or as `None` if each rank may, as with `Any` and `Soft`.
 /// Priorities stand from the highest on, and before them stands `None`, from which a search of them begins.
-#[derive(Drop)]
 pub struct FreeCounts {
     shelves: Tally<(u32, u32, Option<u32>)>,
     targets: Tally<(u32, Option<u32>)>,
     kinds: Tally<(u32, u32)>,
     prios: Tally<(u32, u32, Option<Reverse<i32>>)>,
+}
+
+// By hand, so that whoever holds the counts lets them go by one call, and does not look at four trees.
+impl Drop for FreeCounts {
+    fn drop(self) {
+        let FreeCounts {
+            shelves,
+            targets,
+            kinds,
+            prios,
+        } = self;
+    }
 }
 
 impl FreeCounts {

@@ -21,12 +21,23 @@ use std::marker::Model;
 
 /// The common parts, in order, seen as their list. A part is found by its batch, a server's charge is a sum that is kept, and
 /// the parts that are due are counted.
-#[derive(Drop)]
 pub struct Parts {
     held: Vec<Part>,
     places: Places,
     charges: Charges,
     due: u64,
+}
+
+// By hand, so that whoever holds the parts lets them go by one call.
+impl Drop for Parts {
+    fn drop(self) {
+        let Parts {
+            held,
+            places,
+            charges,
+            due,
+        } = self;
+    }
 }
 
 impl Model for Parts {

@@ -14,11 +14,21 @@ use std::marker::Model;
 
 /// The promises that stand, in order, seen as their list. Each has a slot, which stays when the promise is gone; a promise is
 /// found by its unit, and a server's charge is a sum that is kept. No two promises are of one unit.
-#[derive(Drop)]
 pub struct Promises {
     slots: Vec<Option<Promise>>,
     places: Places,
     charges: Charges,
+}
+
+// By hand, so that whoever holds the promises lets them go by one call.
+impl Drop for Promises {
+    fn drop(self) {
+        let Promises {
+            slots,
+            places,
+            charges,
+        } = self;
+    }
 }
 
 impl Model for Promises {

@@ -26,12 +26,23 @@ use std::marker::Model;
 
 /// The accepted units, in order, seen as their list. A unit is found by its id, a server's charge is a sum that is kept, and
 /// the free units are counted by what is asked of them.
-#[derive(Drop)]
 pub struct Units {
     held: Vec<Placed>,
     places: Places,
     charges: Charges,
     free: FreeCounts,
+}
+
+// By hand, so that whoever holds the units lets them go by one call.
+impl Drop for Units {
+    fn drop(self) {
+        let Units {
+            held,
+            places,
+            charges,
+            free,
+        } = self;
+    }
 }
 
 impl Model for Units {

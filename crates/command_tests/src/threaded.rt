@@ -252,7 +252,7 @@ fn written<T: Spawner>(
     line: &str,
     input: &str,
 ) -> Result<String, Fail> {
-    Ok(run_words(alloc, threads, line, input)?.written)
+    Ok(run_words(alloc, threads, line, input)?.into_written())
 }
 
 // The input that `make` writes with these numbers.

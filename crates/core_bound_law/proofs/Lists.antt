@@ -6,7 +6,7 @@ use Rattle.std.specs.List.{range_with_len}
 use Rattle.std.proofs.lemmas.Nat.{mod-mul-add}
 use Rattle.std.proofs.lemmas.Bool.{cases_eq, cases_lt, eq-eqb, eqb-true, false_from_ne_true}
 use Rattle.adlb_unit.specs.Ring.{behind, others}
-use Rattle.reserve_path.specs.Calls.{has_server, with_server}
+use Rattle.server_components.specs.Calls.{has_server, with_server}
 use Rattle.core_law.specs.Letters.{one}
 use Rattle.adlb_unit.specs.declared.actors.Actor.TheVariants as by
 use Rattle.adlb_unit.specs.declared.configs.Config.{Config}

@@ -18,14 +18,14 @@ use Rattle.adlb_unit.specs.declared.tokens.Token.{Token}
 use Rattle.adlb_unit.specs.declared.units.Unit.{Unit}
 use Rattle.exhaust_ring.specs.Expected.{expects, is_running}
 use Rattle.exhaust_ring.specs.Ring.{Asker}
-use Rattle.put_path.specs.Pushes.{is_push_as, query_of}
-use Rattle.put_path.specs.declared.pushing.PushQuery.{PushQuery}
-use Rattle.put_path.specs.declared.standing.StandingPush.{StandingPush}
+use Rattle.server_components.specs.Pushes.{is_push_as, query_of}
+use Rattle.server_components.specs.declared.pushing.PushQuery.{PushQuery}
+use Rattle.server_components.specs.declared.standing.StandingPush.{StandingPush}
 use Rattle.work_queue.specs.declared.placing.Placed.{Placed}
-use Rattle.batch_store.specs.Store.{part_in}
-use Rattle.batch_store.specs.declared.parts.Part.{Part}
-use Rattle.reserve_path.specs.Calls.{is_since, is_soft_for}
-use Rattle.reserve_path.specs.declared.wishes.Wish.{Wish}
+use Rattle.server_components.specs.Store.{part_in}
+use Rattle.server_components.specs.declared.parts.Part.{Part}
+use Rattle.server_components.specs.Calls.{is_since, is_soft_for}
+use Rattle.server_components.specs.declared.wishes.Wish.{Wish}
 use Rattle.server_law.specs.Acts.{Act, Accepts, Arrives, Ends_put, Refuses}
 use Rattle.server_law.specs.Asks.{expects_ask, pass_at, pass_on, wake, wake_at}
 use Rattle.server_law.specs.Batches.{can_close, can_fetch, close, expects_keep, part_if, share}

@@ -10,8 +10,8 @@ use Rattle.adlb_unit.specs.declared.configs.Config.{Config}
 use Rattle.adlb_unit.specs.declared.letters.Letter.{Letter}
 use Rattle.adlb_unit.specs.declared.names.Rank.{Rank}
 use Rattle.adlb_unit.specs.declared.names.Server.{Server}
-use Rattle.reserve_path.specs.Parked.{is_by}
-use Rattle.reserve_path.specs.declared.wishes.Wish.{Wish}
+use Rattle.server_components.specs.Parked.{is_by}
+use Rattle.server_components.specs.declared.wishes.Wish.{Wish}
 use Rattle.server_law.specs.Acts.{Act, Answers, Declines, Hints, unwished, wishes_after}
 use Rattle.server_law.specs.Carried.{Served, all_done, done}
 use Rattle.server_law.specs.State.{Kept, ServerModel}

@@ -9,7 +9,7 @@ use Rattle.adlb_unit.specs.declared.names.Server.{Server}
 use Rattle.rank_client.specs.declared.pendings.Pending.{Pending}
 use Rattle.rank_client.specs.declared.pendings.Pending.TheVariants as waits_for
 use Rattle.rank_client.specs.State.{ClientModel}
-use Rattle.reserve_path.specs.declared.waits.Waiting.{Waiting}
+use Rattle.server_components.specs.declared.waits.Waiting.{Waiting}
 use Rattle.server_law.specs.Endings.{is_noted}
 use Rattle.server_law.specs.State.{Debt, ServerModel}
 use Rattle.core_run.specs.World.{World}

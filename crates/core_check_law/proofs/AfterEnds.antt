@@ -8,8 +8,8 @@ use Rattle.adlb_unit.specs.declared.letters.Letter.{Letter}
 use Rattle.adlb_unit.specs.declared.names.BatchId.{BatchId}
 use Rattle.adlb_unit.specs.declared.names.Rank.{Rank}
 use Rattle.adlb_unit.specs.declared.names.Server.{Server}
-use Rattle.batch_store.specs.Store.{closed, fetched, is_due}
-use Rattle.batch_store.specs.declared.parts.Part.{Part}
+use Rattle.server_components.specs.Store.{closed, fetched, is_due}
+use Rattle.server_components.specs.declared.parts.Part.{Part}
 use Rattle.bag_ledger.specs.Bag.{Bag, settled, start as empty_bag}
 use Rattle.bag_ledger.specs.Runs.{IsRun, IsRunWhere}
 use Rattle.bag_ledger.specs.Steps.{after, LegalWhere}

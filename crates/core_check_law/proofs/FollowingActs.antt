@@ -17,10 +17,10 @@ use Rattle.adlb_unit.specs.declared.tokens.Token.{Token}
 use Rattle.exhaust_ring.specs.Expected.{expects}
 use Rattle.exhaust_ring.specs.Ring.{Asker, may_start}
 use Rattle.work_queue.specs.declared.placing.Placed.{Placed}
-use Rattle.reserve_path.specs.Calls.{is_since}
-use Rattle.reserve_path.specs.Parked.{is_idle, is_of}
-use Rattle.reserve_path.specs.declared.waits.Waiting.{Waiting}
-use Rattle.reserve_path.specs.declared.wishes.Wish.{Wish}
+use Rattle.server_components.specs.Calls.{is_since}
+use Rattle.server_components.specs.Parked.{is_idle, is_of}
+use Rattle.server_components.specs.declared.waits.Waiting.{Waiting}
+use Rattle.server_components.specs.declared.wishes.Wish.{Wish}
 use Rattle.server_law.specs.Acts.{Acks, Act, Around, Asks_on, Hints, Notes_own, Notices, Declines, Drops_hint, Heard, Hears_exhaust}
 use Rattle.server_law.specs.Acts.{Hears_shutdown, Is_hinted, Notes_finish, Passes, Wakes, Wants, says, takes}
 use Rattle.server_law.specs.Asks.{expects_ask, none_rule, wake, wake_at}

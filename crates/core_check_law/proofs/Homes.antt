@@ -10,8 +10,8 @@ use Rattle.adlb_unit.specs.Targets.{home, home_of}
 use Rattle.adlb_unit.specs.declared.configs.Config.{Config}
 use Rattle.adlb_unit.specs.declared.names.Server.{Server}
 use Rattle.exhaust_ring.specs.Ring.{Asker}
-use Rattle.reserve_path.specs.Calls.{wants}
-use Rattle.reserve_path.specs.declared.waits.Waiting.{Waiting}
+use Rattle.server_components.specs.Calls.{wants}
+use Rattle.server_components.specs.declared.waits.Waiting.{Waiting}
 use Rattle.server_law.specs.State.{is_home}
 use Rattle.core_law.specs.OnLinks.{Each}
 use Rattle.core_law.specs.Own.{IsEntry}

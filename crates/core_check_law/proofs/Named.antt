@@ -10,8 +10,8 @@ use Rattle.adlb_unit.specs.declared.names.Server.{Server}
 use Rattle.exhaust_ring.specs.Expected.{AreNamed}
 use Rattle.exhaust_ring.specs.Ring.{Asker}
 use Rattle.rank_client.specs.Rules.{is_idle}
-use Rattle.reserve_path.specs.Calls.{wants}
-use Rattle.reserve_path.specs.declared.waits.Waiting.{Waiting}
+use Rattle.server_components.specs.Calls.{wants}
+use Rattle.server_components.specs.declared.waits.Waiting.{Waiting}
 use Rattle.server_law.specs.Acts.{askers}
 use Rattle.server_law.specs.State.{start as new_pool}
 use Rattle.core_run.specs.World.{World, client_of, pool_of}

@@ -21,13 +21,13 @@ use Rattle.bag_ledger.specs.Bag.{Bag}
 use Rattle.bag_ledger.specs.declared.states.Status.TheVariants as is_at
 use Rattle.bag_ledger.proofs.Tests.{some_is}
 use Rattle.exhaust_ring.specs.Ring.{Asker}
-use Rattle.reserve_path.specs.declared.waits.Waiting.{Waiting}
-use Rattle.reserve_path.specs.declared.wishes.Wish.{Wish}
+use Rattle.server_components.specs.declared.waits.Waiting.{Waiting}
+use Rattle.server_components.specs.declared.wishes.Wish.{Wish}
 use Rattle.work_queue.specs.Best.{best_from, offered}
 use Rattle.work_queue.specs.Queue.{id_of}
 use Rattle.work_queue.specs.declared.placing.Placed.{Placed}
-use Rattle.put_path.specs.Pushes.{asks_room, has_sent}
-use Rattle.put_path.specs.declared.standing.StandingPush.{StandingPush}
+use Rattle.server_components.specs.Pushes.{asks_room, has_sent}
+use Rattle.server_components.specs.declared.standing.StandingPush.{StandingPush}
 use Rattle.server_law.specs.Acts.{Accepts, Act, Answers, Around, Arrives, Cancels, Closes, Counts, Ends_keep, Ends_push, Ends_put}
 use Rattle.server_law.specs.Acts.{Ends_reserve, Ends_try, Fetches, Fetches_part, Gives, Grants, Grants_try, Heard, Hears_done, Keeps, Looks}
 use Rattle.server_law.specs.Acts.{Parks, Passes_on, Promises, Queries, Refuses, Refuses_part, Refuses_push, Sends_unit, Stops_push, Tells}

@@ -22,8 +22,8 @@ use Rattle.bag_ledger.specs.declared.states.Placed.{Placed}
 use Rattle.bag_ledger.specs.declared.states.Status.TheVariants as is_at
 use Rattle.rank_client.specs.Agreement.{rank_of}
 use Rattle.rank_client.specs.declared.pendings.Pending.TheVariants as waits_for
-use Rattle.reserve_path.specs.declared.waits.Waiting.{Waiting}
-use Rattle.reserve_path.specs.declared.wishes.Wish.{Wish}
+use Rattle.server_components.specs.declared.waits.Waiting.{Waiting}
+use Rattle.server_components.specs.declared.wishes.Wish.{Wish}
 use Rattle.server_law.specs.Endings.{is_quiet}
 use Rattle.server_law.specs.Expected.{IsQuiet, WaitsIdle}
 use Rattle.server_law.specs.State.{is_finished, start as new_pool}

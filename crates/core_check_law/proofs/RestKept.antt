@@ -11,9 +11,9 @@ use Rattle.bag_ledger.specs.declared.states.RankState.{RankState}
 use Rattle.bag_ledger.specs.declared.states.Status.TheVariants as is_at
 use Rattle.exhaust_ring.specs.Ring.{Asker}
 use Rattle.work_queue.specs.Queue.{Queue}
-use Rattle.reserve_path.specs.Calls.{wants}
-use Rattle.reserve_path.specs.declared.waits.Waiting.{Waiting}
-use Rattle.reserve_path.specs.declared.wishes.Wish.{Wish}
+use Rattle.server_components.specs.Calls.{wants}
+use Rattle.server_components.specs.declared.waits.Waiting.{Waiting}
+use Rattle.server_components.specs.declared.wishes.Wish.{Wish}
 use Rattle.rank_client.specs.State.{ClientModel}
 use Rattle.server_law.specs.Acts.{Acks, Act, Around, Asks_on, Declines, Drops_hint, Hears_exhaust, Hears_shutdown, Hints, Is_hinted}
 use Rattle.server_law.specs.Acts.{Notes_finish, Notes_own, Notices, Wakes, Wants, around, comes, done_after, entries, goes, queue_after}

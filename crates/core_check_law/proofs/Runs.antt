@@ -9,8 +9,8 @@ use Rattle.bag_ledger.specs.Runs.{IsRun, IsRunWhere}
 use Rattle.bag_ledger.specs.Steps.{Legal, LegalWhere}
 use Rattle.bag_ledger.specs.declared.entries.Entry.{Entry}
 use Rattle.bag_ledger.specs.declared.entries.Entry.TheVariants as enters
-use Rattle.batch_store.specs.Store.{closed, fetched, is_due}
-use Rattle.batch_store.specs.declared.parts.Part.{Part}
+use Rattle.server_components.specs.Store.{closed, fetched, is_due}
+use Rattle.server_components.specs.declared.parts.Part.{Part}
 use Rattle.server_law.specs.Acts.{Act, Closes, Fetches_part, Finds, Finds_alone, entries, frees}
 use Rattle.server_law.specs.State.{ServerModel}
 use Rattle.core_law.specs.OnLinks.{Each}

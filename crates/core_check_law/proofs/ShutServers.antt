@@ -14,7 +14,7 @@ use Rattle.bag_ledger.specs.declared.entries.Call.{Call}
 use Rattle.bag_ledger.specs.declared.states.Status.TheVariants as is_at
 use Rattle.exhaust_ring.specs.Ring.{Asker}
 use Rattle.rank_client.specs.Step.{Made}
-use Rattle.reserve_path.specs.declared.wishes.Wish.{Wish}
+use Rattle.server_components.specs.declared.wishes.Wish.{Wish}
 use Rattle.server_law.specs.Acts.{Act, Hears_shutdown, Shuts, Shuts_alone, does, shut_after, takes, zeroth}
 use Rattle.server_law.specs.Carried.{Served}
 use Rattle.server_law.specs.State.{Kept, ServerModel}

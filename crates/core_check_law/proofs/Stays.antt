@@ -4,7 +4,7 @@ use Rattle.adlb_unit.specs.declared.names.Server.{Server}
 use Rattle.adlb_unit.specs.declared.tokens.Token.{Token}
 use Rattle.bag_ledger.specs.declared.entries.Entry.{Entry}
 use Rattle.rank_client.specs.State.{ClientModel}
-use Rattle.reserve_path.specs.Calls.{wants}
+use Rattle.server_components.specs.Calls.{wants}
 use Rattle.server_law.specs.Acts.{askers, zeroth}
 use Rattle.server_law.specs.Endings.{is_quiet}
 use Rattle.server_law.specs.State.{Kept, ServerModel}

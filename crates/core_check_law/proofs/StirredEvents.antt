@@ -17,21 +17,21 @@ use Rattle.adlb_unit.specs.declared.notes.End.TheVariants as ends_by
 use Rattle.adlb_unit.specs.declared.notes.UnitNote.{UnitNote}
 use Rattle.adlb_unit.specs.declared.tokens.Token.{Token}
 use Rattle.adlb_unit.specs.declared.units.Unit.{Unit as Work}
-use Rattle.batch_store.specs.Store.{part_in}
-use Rattle.batch_store.specs.declared.parts.Part.{Part}
+use Rattle.server_components.specs.Store.{part_in}
+use Rattle.server_components.specs.declared.parts.Part.{Part}
 use Rattle.bag_ledger.proofs.Tests.{some_is}
 use Rattle.exhaust_ring.specs.Expected.{expects, is_running}
 use Rattle.exhaust_ring.specs.Ring.{Asker, may_start}
 use Rattle.exhaust_ring.specs.declared.steps.RingStep.{RingStep}
 use Rattle.exhaust_ring.specs.declared.steps.RingStep.TheVariants.{Ended, Exhausted, Fail, Pass, Shutdown}
-use Rattle.put_path.specs.Pushes.{is_push_as, query_of}
-use Rattle.put_path.specs.declared.pushing.PushQuery.{PushQuery}
-use Rattle.put_path.specs.declared.standing.StandingPush.{StandingPush}
+use Rattle.server_components.specs.Pushes.{is_push_as, query_of}
+use Rattle.server_components.specs.declared.pushing.PushQuery.{PushQuery}
+use Rattle.server_components.specs.declared.standing.StandingPush.{StandingPush}
 use Rattle.work_queue.specs.declared.placing.Placed.{Placed}
-use Rattle.reserve_path.specs.Calls.{is_since}
-use Rattle.reserve_path.specs.Parked.{is_idle, is_of}
-use Rattle.reserve_path.specs.declared.waits.Waiting.{Waiting}
-use Rattle.reserve_path.specs.declared.wishes.Wish.{Wish}
+use Rattle.server_components.specs.Calls.{is_since}
+use Rattle.server_components.specs.Parked.{is_idle, is_of}
+use Rattle.server_components.specs.declared.waits.Waiting.{Waiting}
+use Rattle.server_components.specs.declared.wishes.Wish.{Wish}
 use Rattle.server_law.specs.Acts.{Act, Around, Checks_alone, Fails, Finds, Finds_alone, Gives_up, Heard, Hears_failed, Hears_shutdown}
 use Rattle.server_law.specs.Acts.{Marks, Notes_own, Notices, Passes, Shuts, Shuts_alone, Starts, Wants, check_alone, takes}
 use Rattle.server_law.specs.Asks.{expects_ask, pass_at, pass_on, wake, wake_at}

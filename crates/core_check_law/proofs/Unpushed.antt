@@ -3,9 +3,9 @@ use Rattle.std.proofs.Common.{◌≡◌, ◌<◌, ◌⊎◌, inl, inr, ℕ, Bool
 use Rattle.std.specs.Option.{IfSome}
 use Rattle.adlb_unit.specs.declared.messages.Message.TheVariants as tells
 use Rattle.adlb_unit.specs.declared.names.Server.{Server}
-use Rattle.reserve_path.specs.Parked.{IsOther}
-use Rattle.put_path.specs.Pushes.{asks_room}
-use Rattle.put_path.specs.declared.standing.StandingPush.{StandingPush}
+use Rattle.server_components.specs.Parked.{IsOther}
+use Rattle.server_components.specs.Pushes.{asks_room}
+use Rattle.server_components.specs.declared.standing.StandingPush.{StandingPush}
 use Rattle.server_law.specs.Acts.{Act, Cancels, Ends_push, Finds, Finds_alone, Hears_exhaust, Hears_shutdown, Promises, Queries, Sends_unit}
 use Rattle.server_law.specs.Acts.{Shuts, Shuts_alone, Stops_push, exhausted_after, shut_after, turned, turns, zeroth}
 use Rattle.server_law.specs.State.{Kept, ServerModel}

@@ -25,8 +25,8 @@ use Rattle.bag_ledger.proofs.Tests.{some_is}
 use Rattle.exhaust_ring.specs.Ring.{Asker}
 use Rattle.work_queue.specs.declared.placing.Placed.{Placed}
 use Rattle.rank_client.specs.declared.pendings.Pending.TheVariants as waits_for
-use Rattle.reserve_path.specs.declared.waits.Waiting.{Waiting}
-use Rattle.reserve_path.specs.declared.wishes.Wish.{Wish}
+use Rattle.server_components.specs.declared.waits.Waiting.{Waiting}
+use Rattle.server_components.specs.declared.wishes.Wish.{Wish}
 use Rattle.server_law.specs.Agreement.{UnitWeight, weight_at, weight_in}
 use Rattle.core_run.specs.World.{World, client_of, pool_of}
 use Rattle.core_law.specs.Lawful.{IsLawful, IsWaiting}

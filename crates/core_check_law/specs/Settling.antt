@@ -12,8 +12,8 @@ use Rattle.bag_ledger.specs.declared.states.Status.TheVariants as is_at
 use Rattle.exhaust_ring.specs.Ring.{Asker}
 use Rattle.work_queue.specs.Best.{offered}
 use Rattle.work_queue.specs.declared.placing.Placed.{Placed}
-use Rattle.reserve_path.specs.declared.waits.Waiting.{Waiting}
-use Rattle.reserve_path.specs.declared.wishes.Wish.{Wish}
+use Rattle.server_components.specs.declared.waits.Waiting.{Waiting}
+use Rattle.server_components.specs.declared.wishes.Wish.{Wish}
 use Rattle.server_law.specs.Acts.{askers}
 use Rattle.server_law.specs.State.{Kept}
 use Rattle.core_run.specs.World.{World, pool_of}

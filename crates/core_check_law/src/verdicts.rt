@@ -5,7 +5,7 @@ ghost use Rattle.adlb_unit.specs.declared.configs.Config.{Config};
 ghost use Rattle.adlb_unit.specs.declared.names.Server.{Server};
 ghost use Rattle.bag_ledger.specs.Bag.{Bag, start as empty_bag};
 ghost use Rattle.bag_ledger.specs.Runs.{IsLegal, IsRun};
-ghost use Rattle.reserve_path.specs.declared.waits.Waiting.{Waiting};
+ghost use Rattle.server_components.specs.declared.waits.Waiting.{Waiting};
 ghost use Rattle.core_run.specs.declared.events.Event.{Event};
 ghost use Rattle.core_run.specs.Runs.{Runs};
 ghost use Rattle.core_run.specs.World.{World, pool_of, start};

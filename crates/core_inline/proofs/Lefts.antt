@@ -10,7 +10,7 @@ use Rattle.bag_ledger.specs.declared.states.Placed.{Placed as Lodged}
 use Rattle.bag_ledger.specs.declared.states.UnitPlace.{UnitPlace}
 use Rattle.bag_ledger.specs.declared.states.UnitPlace.TheVariants.{Free, Pinned, Spent, Travelling}
 use Rattle.core_inline.specs.Left.{left_of}
-use Rattle.reserve_path.specs.Grants.{unit_with}
+use Rattle.server_components.specs.Grants.{unit_with}
 use Rattle.server_core.specs.Left.{left_of as left_list}
 use Rattle.server_law.specs.Agreement.{ServerAgrees, of_id, slot_of}
 use Rattle.server_law.specs.Rest.{HasAll, IsHereOrSpent, IsKeptAt}

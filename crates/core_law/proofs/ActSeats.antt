@@ -15,13 +15,13 @@ use Rattle.rank_client.specs.Expected.{IsAwaited}
 use Rattle.rank_client.specs.declared.pendings.Pending.{Pending}
 use Rattle.rank_client.specs.declared.pendings.Pending.TheVariants as waits_for
 use Rattle.rank_client.specs.State.{ClientModel}
-use Rattle.reserve_path.specs.declared.waits.Waiting.{Waiting}
-use Rattle.reserve_path.specs.declared.wishes.Wish.{Wish}
+use Rattle.server_components.specs.declared.waits.Waiting.{Waiting}
+use Rattle.server_components.specs.declared.wishes.Wish.{Wish}
 use Rattle.server_law.specs.State.{ServerModel, awaiting, idle}
 use Rattle.adlb_unit.specs.declared.names.BatchId.{BatchId}
 use Rattle.bag_ledger.specs.declared.entries.Entry.TheVariants as enters
-use Rattle.batch_store.specs.Store.{closed, fetched, is_due}
-use Rattle.batch_store.specs.declared.parts.Part.{Part}
+use Rattle.server_components.specs.Store.{closed, fetched, is_due}
+use Rattle.server_components.specs.declared.parts.Part.{Part}
 use Rattle.server_law.specs.Acts.{Act, Accepts, Checks_alone, Fails, Finds_alone, Gives_up, Hears_done, Hears_exhaust, Hears_failed}
 use Rattle.server_law.specs.Acts.{Hears_shutdown, Marks, Notes_own, Notices, Passes, Shuts_alone, Starts, Wants, Answers, Around, Asks_on}
 use Rattle.server_law.specs.Acts.{Closes, Counts, Declines, Drops_hint, Ends_keep, Ends_put, Ends_reserve, Ends_try, Fetches, Fetches_part}

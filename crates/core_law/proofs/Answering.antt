@@ -24,8 +24,8 @@ use Rattle.rank_client.specs.Agreement.{said}
 use Rattle.rank_client.specs.Expected.{IsAwaited}
 use Rattle.rank_client.specs.Rules.{asked, is_idle, looks_at}
 use Rattle.rank_client.specs.State.{ClientModel}
-use Rattle.reserve_path.specs.declared.waits.Waiting.{Waiting}
-use Rattle.reserve_path.specs.declared.wishes.Wish.{Wish}
+use Rattle.server_components.specs.declared.waits.Waiting.{Waiting}
+use Rattle.server_components.specs.declared.wishes.Wish.{Wish}
 use Rattle.server_law.specs.State.{idle, is_home}
 use Rattle.server_law.specs.Acts.{Act, Around, Heard, comes, entries, goes, of_rank, of_server, says, takes, to_rank}
 use Rattle.core_run.specs.World.{World, client_of, pool_of, server_named}

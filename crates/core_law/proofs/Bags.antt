@@ -13,8 +13,8 @@ use Rattle.bag_ledger.proofs.Tests.{some_is}
 use Rattle.bag_law.proofs.Plain.{accepted_is, kept_is, lodged}
 use Rattle.bag_law.specs.Sound.{IsSoundBag}
 use Rattle.adlb_unit.specs.declared.names.BatchId.{BatchId}
-use Rattle.batch_store.specs.Store.{closed, fetched, is_due}
-use Rattle.batch_store.specs.declared.parts.Part.{Part}
+use Rattle.server_components.specs.Store.{closed, fetched, is_due}
+use Rattle.server_components.specs.declared.parts.Part.{Part}
 use Rattle.server_law.specs.Acts.{Act, Accepts, Answers, Asks_on, Closes, Declines, Drops_hint, Checks_alone, Fails, Fetches, Fetches_part}
 use Rattle.server_law.specs.Acts.{Finds, Finds_alone, Gives, Gives_up, Grants, Grants_try, Hears_done, Hears_exhaust, Hears_failed}
 use Rattle.server_law.specs.Acts.{Hears_shutdown, Hints, Is_hinted, Keeps, Marks, Notes_finish, Notes_own, Notices, Parks, Passes}

@@ -11,8 +11,8 @@ use Rattle.adlb_unit.specs.declared.configs.Config.{Config}
 use Rattle.adlb_unit.specs.declared.letters.Letter.{Letter}
 use Rattle.adlb_unit.specs.declared.names.Server.{Server}
 use Rattle.adlb_unit.specs.declared.names.UnitId.{UnitId}
-use Rattle.put_path.specs.Pushes.{is_push_as, is_sent, some_push}
-use Rattle.put_path.specs.declared.standing.StandingPush.{StandingPush}
+use Rattle.server_components.specs.Pushes.{is_push_as, is_sent, some_push}
+use Rattle.server_components.specs.declared.standing.StandingPush.{StandingPush}
 use Rattle.server_law.specs.Carried.{Served}
 use Rattle.server_law.specs.State.{ServerModel, start as new_pool}
 use Rattle.server_law.proofs.Debts.{events_pay}

@@ -34,20 +34,20 @@ use Rattle.rank_client.specs.declared.pendings.Pending.{Pending}
 use Rattle.rank_client.specs.declared.pendings.Pending.TheVariants as waits_for
 use Rattle.rank_client.specs.Agreement.{HasAccepted as HasAcceptedOf, in_call, said}
 use Rattle.rank_client.specs.Expected.{IsAtServer, IsAwaited, IsNewNote}
-use Rattle.reserve_path.specs.declared.wishes.Wish.{Wish}
+use Rattle.server_components.specs.declared.wishes.Wish.{Wish}
 use Rattle.server_law.specs.State.{ServerModel, is_home}
 use Rattle.server_law.specs.Acts.{Act, Accepts, Answers, Around, Closes, Counts, Ends_keep, Ends_put, Ends_reserve, Ends_try, Fetches}
 use Rattle.server_law.specs.Acts.{Fetches_part, Gives, Grants, Grants_try, Hears_done, Keeps, Looks, Refuses, Refuses_part, Tells, batch_of}
 use Rattle.server_law.specs.Acts.{entries, frees, unit_of as unit_named}
 use Rattle.server_law.specs.Agreement.{ServerAgrees}
-use Rattle.reserve_path.specs.Grants.{unit_with}
+use Rattle.server_components.specs.Grants.{unit_with}
 use Rattle.server_law.specs.Finding.{best_for}
 use Rattle.server_law.specs.Legal.{AsksFor, Begins, HasAccepted, Needs, Offers, TriesFor}
 use Rattle.server_law.specs.Sure.{IsFound, IsFreeFor}
 use Rattle.server_law.proofs.Elsewhere.{begun_is_new, put_shares_open}
 use Rattle.server_law.proofs.PartEntries.{lodged_part}
-use Rattle.batch_store.specs.Store.{closed, fetched}
-use Rattle.batch_store.specs.declared.parts.Part.{Part}
+use Rattle.server_components.specs.Store.{closed, fetched}
+use Rattle.server_components.specs.declared.parts.Part.{Part}
 use Rattle.bag_ledger.specs.declared.states.Part.{Part as Lot}
 use Rattle.bag_law.specs.Sound.{HasPart}
 use Rattle.adlb_unit.specs.declared.names.BatchId.{BatchId}

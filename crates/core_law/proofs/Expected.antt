@@ -32,7 +32,7 @@ use Rattle.bag_ledger.proofs.Tests.{some_is}
 use Rattle.bag_ledger.specs.declared.states.Part.{Part}
 use Rattle.adlb_unit.specs.declared.names.BatchId.{BatchId}
 use Rattle.adlb_unit.specs.declared.names.CommonRef.{CommonRef}
-use Rattle.batch_store.specs.Store.{CanClose, CanFetch, Keeps, part_in}
+use Rattle.server_components.specs.Store.{CanClose, CanFetch, Keeps, part_in}
 use Rattle.server_law.specs.Acts.{batch_of}
 use Rattle.server_law.proofs.Elsewhere.{begun_is_new}
 use Rattle.bag_law.proofs.Sound.{run_is_sound}
@@ -45,7 +45,7 @@ use Rattle.rank_client.specs.State.{ClientModel}
 use Rattle.rank_client.specs.Step.{hear}
 use Rattle.server_law.specs.Agreement.{ServerAgrees, room_at, slot_of, part_at, part_seen}
 use Rattle.server_law.specs.Expected.{IsNew, IsUnanswered, Runs as RunsHere, IsAwaited as IsAwaitedHere, IsAwaitedFrom}
-use Rattle.reserve_path.specs.Grants.{unit_with}
+use Rattle.server_components.specs.Grants.{unit_with}
 use Rattle.server_law.specs.State.{ServerModel, is_finished, is_home}
 use Rattle.server_law.specs.Step.{serve}
 use Rattle.rank_client.proofs.Expected.{expected_are_heard}

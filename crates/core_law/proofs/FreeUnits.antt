@@ -17,7 +17,7 @@ use Rattle.bag_ledger.specs.declared.states.Placed.{Placed}
 use Rattle.bag_ledger.specs.declared.states.UnitPlace.TheVariants.{Free, Travelling}
 use Rattle.bag_ledger.specs.declared.states.UnitPlace.{UnitPlace}
 use Rattle.bag_ledger.proofs.Tests.{some_is}
-use Rattle.put_path.specs.declared.standing.StandingPush.{StandingPush}
+use Rattle.server_components.specs.declared.standing.StandingPush.{StandingPush}
 use Rattle.server_law.specs.Acts.{Queries}
 use Rattle.server_law.specs.Endings.{rests}
 use Rattle.server_law.specs.Moving.{IsHeldAt, is_held_at}

@@ -6,7 +6,7 @@ use Rattle.adlb_unit.specs.declared.names.Rank.{Rank}
 use Rattle.adlb_unit.specs.declared.names.Server.{Server}
 use Rattle.rank_client.specs.Rules.{is_idle}
 use Rattle.rank_client.specs.State.{ClientModel, start as new_client}
-use Rattle.reserve_path.specs.declared.waits.Waiting.{Waiting}
+use Rattle.server_components.specs.declared.waits.Waiting.{Waiting}
 use Rattle.server_law.specs.State.{ServerModel}
 use Rattle.core_run.specs.World.{World, client_of}
 use Rattle.core_law.specs.OnLinks.{OnLinks}

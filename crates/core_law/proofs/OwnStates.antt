@@ -22,12 +22,12 @@ use Rattle.adlb_unit.specs.declared.names.UnitId.{UnitId}
 use Rattle.adlb_unit.specs.declared.tokens.Token.{Token}
 use Rattle.exhaust_ring.specs.Expected.{IsToJudge}
 use Rattle.exhaust_ring.specs.Ring.{token}
-use Rattle.put_path.specs.Pushes.{next_to}
-use Rattle.put_path.specs.declared.standing.StandingPush.{StandingPush}
-use Rattle.reserve_path.specs.Calls.{has_server}
-use Rattle.reserve_path.specs.Parked.{IsOther, is_by}
-use Rattle.reserve_path.specs.declared.wishes.Wish.{Wish}
-use Rattle.reserve_path.proofs.Others.{all_others}
+use Rattle.server_components.specs.Pushes.{next_to}
+use Rattle.server_components.specs.declared.standing.StandingPush.{StandingPush}
+use Rattle.server_components.specs.Calls.{has_server}
+use Rattle.server_components.specs.Parked.{IsOther, is_by}
+use Rattle.server_components.specs.declared.wishes.Wish.{Wish}
+use Rattle.server_components.proofs.Others.{all_others}
 use Rattle.server_law.specs.Acts.{Accepts, Acks, Act, Answers, Arrives, Asks_on, Cancels, Closes, Counts, Declines, Ends_keep, Ends_push}
 use Rattle.server_law.specs.Acts.{Ends_put, Ends_reserve, Ends_try, Fails, Fetches, Fetches_part, Finds, Gives, Grants, Grants_try, Heard}
 use Rattle.server_law.specs.Acts.{Hears_done, Hears_shutdown, Hints, Is_hinted, Keeps, Looks, Marks, Notes_finish, Notices, Parks, Passes}

@@ -23,8 +23,8 @@ use Rattle.bag_ledger.specs.Bag.{Bag, keeping as kept_call, part_of, rank_at}
 use Rattle.bag_ledger.specs.Runs.{IsRun, IsRunWhere, says}
 use Rattle.bag_ledger.specs.Steps.{after, declined_by, ended, kept, new_part, with_part, with_rank}
 use Rattle.bag_law.proofs.Turn.{PartIs, found_new, part_is}
-use Rattle.batch_store.specs.Store.{is_due}
-use Rattle.batch_store.specs.declared.parts.Part.{Part}
+use Rattle.server_components.specs.Store.{is_due}
+use Rattle.server_components.specs.declared.parts.Part.{Part}
 use Rattle.rank_client.specs.declared.pendings.Pending.{Pending}
 use Rattle.rank_client.specs.declared.pendings.Pending.TheVariants as waits_for
 use Rattle.rank_client.specs.Agreement.{HasAccepted, IsOwedIn, in_call, keeping as rank_keeping, running}

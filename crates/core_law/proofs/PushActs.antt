@@ -22,8 +22,8 @@ use Rattle.bag_ledger.specs.declared.states.UnitPlace.TheVariants.{Free, Travell
 use Rattle.bag_ledger.proofs.Moves.{moved_here}
 use Rattle.bag_law.specs.Counts.{promises_named}
 use Rattle.bag_law.specs.Sound.{PromisesAreSingle}
-use Rattle.batch_store.specs.Store.{closed, fetched, is_due}
-use Rattle.batch_store.specs.declared.parts.Part.{Part}
+use Rattle.server_components.specs.Store.{closed, fetched, is_due}
+use Rattle.server_components.specs.declared.parts.Part.{Part}
 use Rattle.server_law.specs.Acts.{Accepts, Act, Answers, Arrives, Cancels, Closes, Counts, Drops_hint, Ends_keep, Ends_push, Ends_put}
 use Rattle.server_law.specs.Acts.{Ends_reserve, Ends_try, Fetches, Fetches_part, Checks_alone, Finds, Finds_alone, Gives, Gives_up}
 use Rattle.server_law.specs.Acts.{Hears_exhaust, Hears_failed, Hears_shutdown, Notes_own, Shuts_alone, Wants, Grants, Grants_try, Heard}

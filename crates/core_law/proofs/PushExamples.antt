@@ -10,7 +10,7 @@ use Rattle.bag_ledger.specs.declared.entries.Call.TheVariants as calls_to
 use Rattle.bag_ledger.specs.declared.entries.Entry.TheVariants as enters
 use Rattle.bag_ledger.specs.declared.entries.Entry.{Entry}
 use Rattle.work_queue.specs.Queue.{charge_of}
-use Rattle.put_path.specs.declared.standing.StandingPush.{StandingPush}
+use Rattle.server_components.specs.declared.standing.StandingPush.{StandingPush}
 use Rattle.rank_client.specs.Calls.{is_fetched, is_granted}
 use Rattle.server_law.specs.State.{ServerModel}
 use Rattle.core_run.specs.Runs.{run}

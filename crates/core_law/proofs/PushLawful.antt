@@ -24,9 +24,9 @@ use Rattle.work_queue.specs.Push.{first_to_push_of, pick_to_push}
 use Rattle.work_queue.specs.Queue.{Queue}
 use Rattle.work_queue.specs.declared.pushing.Candidate.{Candidate}
 use Rattle.work_queue.proofs.Pushes.{first_is}
-use Rattle.reserve_path.specs.Grants.{unit_with}
-use Rattle.put_path.specs.Pushes.{Pushing, may_push, query_of, query_to}
-use Rattle.put_path.specs.declared.pushing.PushQuery.{PushQuery}
+use Rattle.server_components.specs.Grants.{unit_with}
+use Rattle.server_components.specs.Pushes.{Pushing, may_push, query_of, query_to}
+use Rattle.server_components.specs.declared.pushing.PushQuery.{PushQuery}
 use Rattle.server_law.specs.Acts.{Act, Arrives, Cancels, Finds, Hears_exhaust, Promises, Queries, Refuses_push, Sends_unit, Withdraws}
 use Rattle.server_law.specs.Acts.{entries, of_server, takes}
 use Rattle.server_law.specs.Agreement.{ServerAgrees}

@@ -23,9 +23,9 @@ use Rattle.bag_ledger.specs.declared.states.Placed.{Placed}
 use Rattle.bag_ledger.specs.declared.states.Promise.{Promise as Room}
 use Rattle.bag_ledger.specs.declared.states.UnitPlace.{UnitPlace}
 use Rattle.bag_ledger.specs.declared.states.UnitPlace.TheVariants.{Free, Pinned, Spent, Travelling}
-use Rattle.put_path.specs.Pushes.{is_push_as, is_sent}
-use Rattle.put_path.specs.declared.standing.StandingPush.{StandingPush}
-use Rattle.put_path.proofs.StandingPushes.{push_is}
+use Rattle.server_components.specs.Pushes.{is_push_as, is_sent}
+use Rattle.server_components.specs.declared.standing.StandingPush.{StandingPush}
+use Rattle.server_components.proofs.StandingPushes.{push_is}
 use Rattle.work_queue.proofs.Named.{find_listed, find_nothing}
 use Rattle.work_queue.specs.Queue.{HasNoUnit, Promise, id_of}
 use Rattle.server_law.specs.Agreement.{ServerAgrees, pin_at, room_at, room_for, slot_of}

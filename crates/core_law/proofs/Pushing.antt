@@ -13,8 +13,8 @@ use Rattle.adlb_unit.specs.declared.messages.Message.TheVariants as tells
 use Rattle.adlb_unit.specs.declared.names.Server.{Server}
 use Rattle.adlb_unit.specs.declared.names.UnitId.{UnitId}
 use Rattle.bag_ledger.proofs.Tests.{some_is}
-use Rattle.put_path.specs.Pushes.{IsOther, Pushing, is_pressed, may_push, next_to, query_of, query_to}
-use Rattle.put_path.specs.declared.pushing.PushQuery.{PushQuery}
+use Rattle.server_components.specs.Pushes.{IsOther, Pushing, is_pressed, may_push, next_to, query_of, query_to}
+use Rattle.server_components.specs.declared.pushing.PushQuery.{PushQuery}
 use Rattle.work_queue.specs.Push.{first_to_push_of}
 use Rattle.work_queue.specs.Queue.{Queue}
 use Rattle.server_law.specs.Acts.{Act, Acks, Arrives, Cancels, Ends_push, Finds, Queries, Sends_unit, Shuts, Stops_push, debts, turned}

@@ -25,7 +25,7 @@ use Rattle.rank_client.specs.State.{ClientModel, start as new_client}
 use Rattle.rank_client.specs.Step.{Made}
 use Rattle.server_law.specs.Agreement.{ServerAgrees}
 use Rattle.server_law.specs.State.{ServerModel}
-use Rattle.reserve_path.specs.declared.waits.Waiting.{Waiting}
+use Rattle.server_components.specs.declared.waits.Waiting.{Waiting}
 use Rattle.core_run.specs.World.{Links, World, actors, after_rank, client_of, pool_of, rank_named}
 use Rattle.core_law.specs.Found.{found_in}
 use Rattle.core_law.specs.Lawful.{IsLawful, IsOfCall, IsOfRemote, IsSeat, IsWaiting, OfCall}

@@ -8,7 +8,7 @@ use Rattle.adlb_unit.specs.declared.actors.Actor.{Actor}
 use Rattle.adlb_unit.specs.declared.letters.Letter.{Letter}
 use Rattle.adlb_unit.specs.declared.names.Rank.{Rank}
 use Rattle.adlb_unit.specs.declared.names.Server.{Server}
-use Rattle.reserve_path.specs.declared.waits.Waiting.{Waiting}
+use Rattle.server_components.specs.declared.waits.Waiting.{Waiting}
 use Rattle.server_law.specs.Expected.{IsUnanswered}
 use Rattle.server_law.specs.State.{start as new_pool}
 use Rattle.core_run.specs.World.{World, link, pool_of, rank_named, server_named}

@@ -21,8 +21,8 @@ use Rattle.rank_client.specs.Agreement.{rank_of}
 use Rattle.server_law.specs.Acts.{Finds, Finds_alone}
 use Rattle.server_law.specs.Expected.{IsHome, WaitsIdle}
 use Rattle.server_law.specs.Rest.{RestsAt, WaitsFor}
-use Rattle.reserve_path.specs.Parked.{IsOther}
-use Rattle.reserve_path.specs.declared.waits.Waiting.{Waiting}
+use Rattle.server_components.specs.Parked.{IsOther}
+use Rattle.server_components.specs.declared.waits.Waiting.{Waiting}
 use Rattle.server_law.specs.State.{is_finished, start as new_pool}
 use Rattle.server_law.proofs.OneServer.{one_has_all}
 use Rattle.server_law.proofs.Resting.{rest_is_settled}

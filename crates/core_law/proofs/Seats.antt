@@ -17,7 +17,7 @@ use Rattle.bag_law.proofs.Sound.{run_is_sound}
 use Rattle.rank_client.specs.Agreement.{ClientAgrees, holds, said}
 use Rattle.rank_client.specs.Rules.{is_idle}
 use Rattle.rank_client.specs.State.{ClientModel}
-use Rattle.reserve_path.specs.declared.waits.Waiting.{Waiting}
+use Rattle.server_components.specs.declared.waits.Waiting.{Waiting}
 use Rattle.server_law.specs.State.{ServerModel, start as new_pool}
 use Rattle.server_law.specs.Acts.{Act, comes, does, entries, goes, says, takes, waiting_after}
 use Rattle.server_law.specs.Carried.{done, sends}

@@ -1,7 +1,7 @@
 -- Who waits after an act, as sums and one by one: who waited, and who came, without who went.
 use Rattle.std.proofs.Common.{◌≡◌, ℕ, ◌+◌, List, [], ◌∷◌, ◌++◌, Option, None, Some, ap, subst, arith}
 use Rattle.server_law.specs.Acts.{Act, Around, around, comes, goes, waiting_after, waiting_with}
-use Rattle.reserve_path.specs.declared.waits.Waiting.{Waiting}
+use Rattle.server_components.specs.declared.waits.Waiting.{Waiting}
 use Rattle.server_law.specs.State.{ServerModel}
 use Rattle.server_law.specs.Sure.{Sits, SitsIn}
 use Rattle.core_law.specs.OnLinks.{Each}

@@ -19,7 +19,7 @@ use Rattle.rank_client.specs.Expected.{IsAwaited}
 use Rattle.rank_client.specs.Rules.{asked, looks_at}
 use Rattle.rank_client.specs.State.{ClientModel}
 use Rattle.server_law.specs.Agreement.{ServerAgrees}
-use Rattle.reserve_path.specs.declared.waits.Waiting.{Waiting}
+use Rattle.server_components.specs.declared.waits.Waiting.{Waiting}
 use Rattle.core_run.specs.World.{World, client_of, pool_of}
 use Rattle.core_law.specs.Letters.{is_request}
 use Rattle.core_law.specs.OnLinks.{Each, OnLinks}

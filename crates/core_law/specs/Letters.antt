@@ -11,7 +11,7 @@ use Rattle.adlb_unit.specs.Kinds.{is_of_rank, is_to_rank}
 use Rattle.adlb_unit.specs.Ring.{behind}
 use Rattle.rank_client.specs.Rules.{is_idle}
 use Rattle.rank_client.specs.State.{ClientModel}
-use Rattle.reserve_path.specs.declared.waits.Waiting.{Waiting}
+use Rattle.server_components.specs.declared.waits.Waiting.{Waiting}
 use Rattle.server_law.specs.State.{Kept, is_finished, is_home}
 use Rattle.core_law.specs.Measures.{Balance, Weights}
 

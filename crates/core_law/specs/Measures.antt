@@ -9,8 +9,8 @@ use Rattle.adlb_unit.specs.declared.messages.Message.{Message}
 use Rattle.adlb_unit.specs.declared.names.Server.{Server}
 use Rattle.rank_client.specs.State.{ClientModel}
 use Rattle.server_law.specs.Acts.{Act, Heard, ServerSaying, comes, does, goes, says, takes, debts, turns}
-use Rattle.reserve_path.specs.declared.waits.Waiting.{Waiting}
-use Rattle.put_path.specs.declared.standing.StandingPush.{StandingPush}
+use Rattle.server_components.specs.declared.waits.Waiting.{Waiting}
+use Rattle.server_components.specs.declared.standing.StandingPush.{StandingPush}
 use Rattle.server_law.specs.State.{Debt, Kept, ServerModel}
 use Rattle.core_run.specs.World.{Links, World, rank_named, server_named}
 

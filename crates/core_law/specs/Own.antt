@@ -12,10 +12,10 @@ use Rattle.adlb_unit.specs.declared.units.Unit.{Unit}
 use Rattle.rank_client.specs.declared.pendings.Pending.{Pending}
 use Rattle.rank_client.specs.declared.pendings.Pending.TheVariants as waits_for
 use Rattle.rank_client.specs.State.{ClientModel}
-use Rattle.reserve_path.specs.Parked.{IsOther}
-use Rattle.reserve_path.specs.declared.waits.Waiting.{Waiting}
-use Rattle.reserve_path.specs.declared.wishes.Wish.{Wish}
-use Rattle.put_path.specs.declared.standing.StandingPush.{StandingPush}
+use Rattle.server_components.specs.Parked.{IsOther}
+use Rattle.server_components.specs.declared.waits.Waiting.{Waiting}
+use Rattle.server_components.specs.declared.wishes.Wish.{Wish}
+use Rattle.server_components.specs.declared.standing.StandingPush.{StandingPush}
 use Rattle.server_law.specs.State.{Debt, ServerModel, is_home}
 use Rattle.core_run.specs.World.{World, client_of, pool_of}
 

@@ -7,7 +7,7 @@ use Rattle.adlb_unit.specs.declared.messages.Message.{Message}
 use Rattle.adlb_unit.specs.declared.messages.Message.TheVariants as tells
 use Rattle.adlb_unit.specs.declared.names.Server.{Server}
 use Rattle.adlb_unit.specs.declared.names.UnitId.{UnitId}
-use Rattle.put_path.specs.Pushes.{is_sent}
+use Rattle.server_components.specs.Pushes.{is_sent}
 use Rattle.core_law.specs.Letters.{one}
 use Rattle.core_law.specs.Measures.{PushBalance}
 

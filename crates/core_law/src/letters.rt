@@ -7,7 +7,7 @@ ghost use Rattle.adlb_unit.specs.declared.configs.Config.{Config};
 ghost use Rattle.adlb_unit.specs.declared.names.Rank.{Rank};
 ghost use Rattle.adlb_unit.specs.declared.names.Server.{Server};
 ghost use Rattle.adlb_unit.specs.declared.names.UnitId.{UnitId};
-ghost use Rattle.put_path.specs.Pushes.{is_push_as, some_push};
+ghost use Rattle.server_components.specs.Pushes.{is_push_as, some_push};
 ghost use Rattle.core_run.specs.declared.events.Event.{Event};
 ghost use Rattle.core_law.specs.Letters.{finishes, kinds, numbered, one, one_letter, remotes};
 ghost use Rattle.core_law.specs.Lines.{IsInLine};

@@ -8,8 +8,8 @@ use Rattle.exhaust_ring.specs.Ring.{Asker, MayStart}
 use Rattle.exhaust_ring.specs.Visits.{is_verdict}
 use Rattle.exhaust_ring.specs.declared.steps.RingStep.{RingStep}
 use Rattle.exhaust_ring.specs.declared.steps.RingStep.TheVariants.{Ended, Exhausted, Fail, Pass, Shutdown}
-use Rattle.reserve_path.specs.Calls.{wants}
-use Rattle.reserve_path.specs.declared.waits.Waiting.{Waiting}
+use Rattle.server_components.specs.Calls.{wants}
+use Rattle.server_components.specs.declared.waits.Waiting.{Waiting}
 use Rattle.server_law.proofs.Endings.{checks_start, ends_unquiet, notices_quiet, starts_alone, tells_first}
 use Rattle.server_law.proofs.Starting.{exhausted_alone}
 use Rattle.server_law.proofs.Waiters.{done_kept, done_named}

@@ -34,9 +34,9 @@ use Rattle.core_wish_law.proofs.Having.{map_has}
 use Rattle.core_wish_law.specs.News.{news}
 use Rattle.core_run.specs.World.{World, pool_of, server_named}
 use Rattle.exhaust_ring.specs.Ring.{Asker}
-use Rattle.reserve_path.specs.Calls.{wants}
-use Rattle.reserve_path.specs.Parked.{IsOther}
-use Rattle.reserve_path.specs.declared.waits.Waiting.{Waiting}
+use Rattle.server_components.specs.Calls.{wants}
+use Rattle.server_components.specs.Parked.{IsOther}
+use Rattle.server_components.specs.declared.waits.Waiting.{Waiting}
 use Rattle.server_law.proofs.Waiters.{done_kept}
 use Rattle.server_law.specs.Acts.{Act, askers, does, says, takes, zeroth}
 use Rattle.server_law.specs.Calm.{IsCalm}

@@ -43,8 +43,8 @@ use Rattle.core_run.specs.declared.events.Event.{Event}
 use Rattle.rank_client.specs.Rules.{ClientSaying, farewell, is_free}
 use Rattle.rank_client.specs.State.{ClientModel, start as new_client}
 use Rattle.rank_client.specs.Step.{Made}
-use Rattle.reserve_path.specs.Rest.{HasNoneFor}
-use Rattle.reserve_path.specs.declared.waits.Waiting.{Waiting}
+use Rattle.server_components.specs.Rest.{HasNoneFor}
+use Rattle.server_components.specs.declared.waits.Waiting.{Waiting}
 use Rattle.server_law.specs.Acts.{does, zeroth}
 use Rattle.server_law.specs.State.{Kept}
 use Rattle.server_law.specs.Step.{next_stamp, raises}

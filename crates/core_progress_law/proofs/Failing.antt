@@ -33,8 +33,8 @@ use Rattle.core_progress_law.specs.Going.{IsLive, IsTurning}
 use Rattle.core_run.specs.World.{World, pool_of, server_named}
 use Rattle.exhaust_ring.specs.Ring.{Asker}
 use Rattle.exhaust_ring.specs.Tests.{first_failing, fitting}
-use Rattle.reserve_path.specs.Calls.{wants}
-use Rattle.reserve_path.specs.declared.waits.Waiting.{Waiting}
+use Rattle.server_components.specs.Calls.{wants}
+use Rattle.server_components.specs.declared.waits.Waiting.{Waiting}
 use Rattle.server_law.specs.Acts.{Act, Fails, Gives_up, Heard, fit_among, of_server, takes, zeroth}
 use Rattle.server_law.specs.Calm.{IsCalm}
 use Rattle.server_law.specs.Endings.{is_quiet}

@@ -6,8 +6,8 @@ use Rattle.core_check_law.proofs.Lists.{each_has}
 use Rattle.core_check_law.specs.Settling.{Has}
 use Rattle.core_wish_law.proofs.Having.{any_at, any_has, find_has}
 use Rattle.exhaust_ring.specs.Ring.{Asker}
-use Rattle.reserve_path.specs.Rest.{HasNoneFor}
-use Rattle.reserve_path.specs.declared.waits.Waiting.{Waiting}
+use Rattle.server_components.specs.Rest.{HasNoneFor}
+use Rattle.server_components.specs.declared.waits.Waiting.{Waiting}
 use Rattle.server_law.specs.Acts.{fit_among}
 use Rattle.server_law.specs.Calm.{IsCalm}
 use Rattle.server_law.specs.State.{Kept, ServerModel}

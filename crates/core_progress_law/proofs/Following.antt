@@ -5,17 +5,17 @@ use Rattle.adlb_unit.specs.declared.names.Server.{Server}
 use Rattle.adlb_unit.specs.declared.names.UnitId.{UnitId}
 use Rattle.adlb_unit.specs.declared.notes.End.{End}
 use Rattle.adlb_unit.specs.declared.units.Unit.{Unit as Work}
-use Rattle.batch_store.specs.Store.{part_in}
-use Rattle.batch_store.specs.declared.parts.Part.{Part}
+use Rattle.server_components.specs.Store.{part_in}
+use Rattle.server_components.specs.declared.parts.Part.{Part}
 use Rattle.core_law.proofs.UnderWay.{each_append}
 use Rattle.core_law.specs.Measures.{said_weight}
 use Rattle.core_law.specs.OnLinks.{Each}
 use Rattle.core_wish_law.specs.News.{news}
-use Rattle.put_path.specs.Pushes.{query_of}
-use Rattle.put_path.specs.declared.pushing.PushQuery.{PushQuery}
-use Rattle.reserve_path.specs.Parked.{is_of}
-use Rattle.reserve_path.specs.declared.waits.Waiting.{Waiting}
-use Rattle.reserve_path.specs.declared.wishes.Wish.{Wish}
+use Rattle.server_components.specs.Pushes.{query_of}
+use Rattle.server_components.specs.declared.pushing.PushQuery.{PushQuery}
+use Rattle.server_components.specs.Parked.{is_of}
+use Rattle.server_components.specs.declared.waits.Waiting.{Waiting}
+use Rattle.server_components.specs.declared.wishes.Wish.{Wish}
 use Rattle.server_law.specs.Acts.{Act, Around, Asks_on, Gives, Hints, Queries, Tells, says}
 use Rattle.server_law.specs.Batches.{can_close, can_fetch, close, expects_keep, part_if, share}
 use Rattle.server_law.specs.Carried.{all_done}

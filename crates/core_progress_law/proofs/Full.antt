@@ -21,9 +21,9 @@ use Rattle.core_law.specs.Measures.{weigh}
 use Rattle.exhaust_ring.specs.Expected.{expects}
 use Rattle.exhaust_ring.specs.Ring.{Asker}
 use Rattle.exhaust_ring.specs.Tests.{first_failing}
-use Rattle.reserve_path.specs.Parked.{is_idle, is_of}
-use Rattle.reserve_path.specs.declared.waits.Waiting.{Waiting}
-use Rattle.reserve_path.specs.declared.wishes.Wish.{Wish}
+use Rattle.server_components.specs.Parked.{is_idle, is_of}
+use Rattle.server_components.specs.declared.waits.Waiting.{Waiting}
+use Rattle.server_components.specs.declared.wishes.Wish.{Wish}
 use Rattle.server_law.proofs.Carrying.{carried_state}
 use Rattle.server_law.proofs.Decided.{Follow, IsIdleAt, idle_found}
 use Rattle.server_law.proofs.Handled.{planned}

@@ -13,7 +13,7 @@ use Rattle.core_progress_law.proofs.Full.{IsFull, act_told, done_is, may_rise, m
 use Rattle.exhaust_ring.specs.Ring.{may_start}
 use Rattle.exhaust_ring.specs.declared.steps.RingStep.{RingStep}
 use Rattle.exhaust_ring.specs.declared.steps.RingStep.TheVariants.{Ended, Exhausted, Fail, Pass, Shutdown}
-use Rattle.reserve_path.specs.declared.wishes.Wish.{Wish}
+use Rattle.server_components.specs.declared.wishes.Wish.{Wish}
 use Rattle.server_law.proofs.Carrying.{carried_state}
 use Rattle.server_law.proofs.Handled.{planned}
 use Rattle.server_law.proofs.Plans.{IsPlan}

@@ -11,8 +11,8 @@ use Rattle.core_law.proofs.Sums.{weigh-append}
 use Rattle.core_law.specs.Letters.{one, remote_letter}
 use Rattle.core_law.specs.Measures.{weigh}
 use Rattle.core_law.specs.OnLinks.{Each}
-use Rattle.reserve_path.specs.Parked.{is_by}
-use Rattle.reserve_path.specs.declared.wishes.Wish.{Wish}
+use Rattle.server_components.specs.Parked.{is_by}
+use Rattle.server_components.specs.declared.wishes.Wish.{Wish}
 use Rattle.server_law.specs.Acts.{unwished}
 use Rattle.std.proofs.Common.{Bool, List, [], ap, arith, cond, false, not, refl, sym, true, ℕ, ◌++◌, ◌+◌, ◌==◌, ◌∙◌, ◌∷◌, ◌≡◌, ◌≢◌, ◌≤◌}
 use Rattle.std.proofs.Common.{eqb}

@@ -43,8 +43,8 @@ use Rattle.core_run.specs.World.{Links, World, actors, after_rank, client_of, li
 use Rattle.core_run.specs.declared.events.Event.{Event}
 use Rattle.rank_client.specs.Rules.{is_idle}
 use Rattle.rank_client.specs.Step.{Made}
-use Rattle.reserve_path.specs.Parked.{is_by}
-use Rattle.reserve_path.specs.declared.wishes.Wish.{Wish}
+use Rattle.server_components.specs.Parked.{is_by}
+use Rattle.server_components.specs.declared.wishes.Wish.{Wish}
 use Rattle.server_law.proofs.Waiters.{done_kept}
 use Rattle.server_law.specs.Acts.{Act, Answers, Declines, Finds, Heard, Hints, ServerSaying, Shuts, does, says, takes, to_server, unwished}
 use Rattle.server_law.specs.Acts.{wishes_after}

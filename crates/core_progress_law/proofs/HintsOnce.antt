@@ -10,8 +10,8 @@ use Rattle.core_wish_law.specs.Costs.{allowance, cost}
 use Rattle.core_law.proofs.Sums.{weigh-append}
 use Rattle.core_law.specs.Letters.{one}
 use Rattle.core_law.specs.Measures.{weigh}
-use Rattle.reserve_path.specs.Calls.{is_soft_for}
-use Rattle.reserve_path.specs.declared.wishes.Wish.{Wish}
+use Rattle.server_components.specs.Calls.{is_soft_for}
+use Rattle.server_components.specs.declared.wishes.Wish.{Wish}
 use Rattle.server_law.proofs.Decided.{EachHintsNone, acks_hints_none, decided_hints_none, each_none_joined, ends_event_hints_none}
 use Rattle.server_law.proofs.Decided.{presses_hints_none}
 use Rattle.server_law.proofs.Handled.{acts_handle}

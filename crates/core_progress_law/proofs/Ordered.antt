@@ -22,7 +22,7 @@ use Rattle.adlb_unit.specs.declared.notes.End.TheVariants as ends_by
 use Rattle.adlb_unit.specs.declared.notes.UnitNote.{UnitNote}
 use Rattle.adlb_unit.specs.declared.tokens.Token.{Token}
 use Rattle.adlb_unit.specs.declared.units.Unit.{Unit as Work}
-use Rattle.batch_store.specs.Store.{closed, fetched, is_due}
+use Rattle.server_components.specs.Store.{closed, fetched, is_due}
 use Rattle.bag_ledger.specs.Bag.{Bag, is_asking}
 use Rattle.bag_ledger.specs.Steps.{Is}
 use Rattle.bag_ledger.specs.Words.{IsSettled, causes}

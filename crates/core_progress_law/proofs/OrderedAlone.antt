@@ -35,7 +35,7 @@ use Rattle.core_run.specs.Runs.{Runs}
 use Rattle.server_law.specs.Carried.{Served, all_done, done}
 use Rattle.adlb_unit.specs.declared.names.Server.{Server}
 use Rattle.server_law.specs.State.{ServerModel, is_finished, ring_at}
-use Rattle.reserve_path.specs.declared.waits.Waiting.{Waiting}
+use Rattle.server_components.specs.declared.waits.Waiting.{Waiting}
 use Rattle.server_law.specs.Expected.{WaitsIdle}
 use Rattle.core_run.specs.World.{World, client_of, pool_of, server_named, start}
 use Rattle.core_law.proofs.ActLawful.{act_lawful, tick_lawful}

@@ -5,10 +5,10 @@ use Rattle.adlb_unit.specs.declared.messages.Message.{Message}
 use Rattle.adlb_unit.specs.declared.names.Rank.{Rank}
 use Rattle.adlb_unit.specs.declared.names.Server.{Server}
 use Rattle.bag_ledger.proofs.Tests.{some_is}
-use Rattle.reserve_path.specs.Calls.{is_since}
-use Rattle.reserve_path.specs.Parked.{is_of}
-use Rattle.reserve_path.specs.declared.waits.Waiting.{Waiting}
-use Rattle.reserve_path.specs.declared.wishes.Wish.{Wish}
+use Rattle.server_components.specs.Calls.{is_since}
+use Rattle.server_components.specs.Parked.{is_of}
+use Rattle.server_components.specs.declared.waits.Waiting.{Waiting}
+use Rattle.server_components.specs.declared.wishes.Wish.{Wish}
 use Rattle.server_law.proofs.Calm.{first_is}
 use Rattle.server_law.proofs.Carrying.{carried_state}
 use Rattle.server_law.proofs.Decided.{Follow}

@@ -25,10 +25,10 @@ use Rattle.core_law.specs.Pushes.{push_letter}
 use Rattle.core_law.specs.Well.{IsWell}
 use Rattle.core_wish_law.specs.News.{is_news, news}
 use Rattle.core_run.specs.World.{World, client_of, pool_of, rank_named, server_named}
-use Rattle.put_path.specs.declared.standing.StandingPush.{StandingPush}
+use Rattle.server_components.specs.declared.standing.StandingPush.{StandingPush}
 use Rattle.rank_client.specs.Rules.{is_free, is_idle}
 use Rattle.rank_client.specs.State.{start as new_client}
-use Rattle.reserve_path.specs.declared.waits.Waiting.{Waiting}
+use Rattle.server_components.specs.declared.waits.Waiting.{Waiting}
 use Rattle.server_law.proofs.Tests.{quiet_is_tested}
 use Rattle.server_law.specs.Endings.{is_quiet}
 use Rattle.server_law.specs.Expected.{IsHome, WaitsIdle}

@@ -18,9 +18,9 @@ use Rattle.core_law.specs.Own.{IsEntry}
 use Rattle.core_law.specs.Well.{IsWell}
 use Rattle.core_wish_law.proofs.Having.{filter_has}
 use Rattle.core_run.specs.World.{World, pool_of, server_named}
-use Rattle.reserve_path.specs.Parked.{is_by}
-use Rattle.reserve_path.specs.declared.waits.Waiting.{Waiting}
-use Rattle.reserve_path.specs.declared.wishes.Wish.{Wish}
+use Rattle.server_components.specs.Parked.{is_by}
+use Rattle.server_components.specs.declared.waits.Waiting.{Waiting}
+use Rattle.server_components.specs.declared.wishes.Wish.{Wish}
 use Rattle.server_law.specs.Acts.{Acks, Act, Around, Asks_on, Checks_alone, Finds_alone, Gives, Hints, Notes_own, Notices, Queries}
 use Rattle.server_law.specs.Acts.{Shuts_alone, Starts, Tells, around, comes, goes, says, takes, waiting_after, waiting_with, wishes_after}
 use Rattle.server_law.specs.State.{Kept, ServerModel, awaiting, idle}

@@ -46,10 +46,10 @@ use Rattle.core_run.specs.World.{World, after_rank, client_of, happens, link, po
 use Rattle.core_run.specs.declared.events.Event.{Event}
 use Rattle.rank_client.specs.Step.{Made}
 use Rattle.rank_client.specs.declared.pendings.Pending.{Pending}
-use Rattle.reserve_path.specs.Calls.{is_since}
-use Rattle.reserve_path.specs.Parked.{is_by, is_of}
-use Rattle.reserve_path.specs.declared.waits.Waiting.{Waiting}
-use Rattle.reserve_path.specs.declared.wishes.Wish.{Wish}
+use Rattle.server_components.specs.Calls.{is_since}
+use Rattle.server_components.specs.Parked.{is_by, is_of}
+use Rattle.server_components.specs.declared.waits.Waiting.{Waiting}
+use Rattle.server_components.specs.declared.wishes.Wish.{Wish}
 use Rattle.server_law.proofs.Decided.{decided_hints_none, ends_event_hints_none}
 use Rattle.server_law.proofs.Handled.{acts_handle}
 use Rattle.server_law.proofs.Waiters.{done_kept, one as weighed}

@@ -16,7 +16,7 @@ use Rattle.core_wish_law.specs.News.{AreForeseen, IsAgreed, IsCovered, news}
 use Rattle.core_run.specs.Runs.{Runs}
 use Rattle.core_run.specs.World.{World, pool_of, start}
 use Rattle.core_run.specs.declared.events.Event.{Event}
-use Rattle.reserve_path.specs.Rest.{HasNoneFor}
+use Rattle.server_components.specs.Rest.{HasNoneFor}
 use Rattle.server_law.proofs.Calm.{start_is_calm}
 use Rattle.server_law.proofs.Once.{events_keep_once}
 use Rattle.server_law.specs.Calm.{WaitOnce}

@@ -4,7 +4,7 @@ use Rattle.core_bound_law.proofs.Wishes.{wishes_of}
 use Rattle.core_check_law.specs.Settling.{Has}
 use Rattle.core_law.specs.Letters.{one}
 use Rattle.core_law.specs.Measures.{weigh}
-use Rattle.reserve_path.specs.declared.wishes.Wish.{Wish}
+use Rattle.server_components.specs.declared.wishes.Wish.{Wish}
 use Rattle.std.proofs.Common.{Any, Bool, List, Some, [], ap, arith, cond, false, filter, find, inl, inr, map, refl, subst, suc, sym, true}
 use Rattle.std.proofs.Common.{ℕ, ◌<◌, ◌==◌, ◌||◌, ◌∙◌, ◌∷◌, ◌≡◌, ◌≤◌, ◌⊎◌}
 use Rattle.std.proofs.lemmas.Bool.{eq-eqb}

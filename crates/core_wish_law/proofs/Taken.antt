@@ -19,10 +19,10 @@ use Rattle.core_wish_law.proofs.Covered.{AllCovered, Covers, about_self, cover_l
 use Rattle.core_wish_law.proofs.Covered.{letters_next, old_covered, plain_covered, turned_covered, waits_at, wishes_at}
 use Rattle.core_wish_law.proofs.Having.{filter_has}
 use Rattle.core_run.specs.World.{World, pool_of, server_named}
-use Rattle.reserve_path.specs.Calls.{has_server, is_since, with_server}
-use Rattle.reserve_path.specs.Parked.{is_by, is_of}
-use Rattle.reserve_path.specs.declared.waits.Waiting.{Waiting}
-use Rattle.reserve_path.specs.declared.wishes.Wish.{Wish}
+use Rattle.server_components.specs.Calls.{has_server, is_since, with_server}
+use Rattle.server_components.specs.Parked.{is_by, is_of}
+use Rattle.server_components.specs.declared.waits.Waiting.{Waiting}
+use Rattle.server_components.specs.declared.wishes.Wish.{Wish}
 use Rattle.server_law.proofs.Waiters.{none_of, one as weighed}
 use Rattle.server_law.specs.Acts.{Act, Answers, Around, Asks_on, Declines, Drops_hint, Heard, Hints, Is_hinted, Parks, Passes_on, Wakes}
 use Rattle.server_law.specs.Acts.{around, comes, hinted, of_server, says, takes, unwished, waiting_after, wishes_after}

@@ -9,15 +9,15 @@ use Rattle.adlb_unit.specs.declared.names.Server.{Server}
 use Rattle.adlb_unit.specs.declared.names.UnitId.{UnitId}
 use Rattle.adlb_unit.specs.declared.units.Unit.{Unit as Work}
 use Rattle.bag_ledger.proofs.Tests.{some_is}
-use Rattle.batch_store.specs.Store.{closed, fetched, is_due}
-use Rattle.batch_store.specs.declared.parts.Part.{Part}
+use Rattle.server_components.specs.Store.{closed, fetched, is_due}
+use Rattle.server_components.specs.declared.parts.Part.{Part}
 use Rattle.core_check_law.proofs.Lists.{each_has, has_filter}
 use Rattle.core_check_law.specs.Settling.{Has}
-use Rattle.reserve_path.proofs.Resting.{each_not, none_granted_is, none_left, none_pinned, not_any}
-use Rattle.reserve_path.specs.Calls.{is_soft_for}
-use Rattle.reserve_path.specs.Parked.{is_by}
-use Rattle.reserve_path.specs.Rest.{HasNoneFor}
-use Rattle.reserve_path.specs.declared.wishes.Wish.{Wish}
+use Rattle.server_components.proofs.Resting.{each_not, none_granted_is, none_left, none_pinned, not_any}
+use Rattle.server_components.specs.Calls.{is_soft_for}
+use Rattle.server_components.specs.Parked.{is_by}
+use Rattle.server_components.specs.Rest.{HasNoneFor}
+use Rattle.server_components.specs.declared.wishes.Wish.{Wish}
 use Rattle.server_law.proofs.Calm.{first_is}
 use Rattle.server_law.proofs.Carrying.{carried_state}
 use Rattle.server_law.proofs.Decided.{Follow}

@@ -5,7 +5,7 @@ use Rattle.adlb_unit.specs.declared.messages.Message.TheVariants as tells
 use Rattle.adlb_unit.specs.declared.names.Server.{Server}
 use Rattle.rank_client.specs.Rules.{is_free}
 use Rattle.rank_client.specs.State.{ClientModel}
-use Rattle.reserve_path.specs.declared.waits.Waiting.{Waiting}
+use Rattle.server_components.specs.declared.waits.Waiting.{Waiting}
 use Rattle.work_queue.specs.Best.{offered}
 use Rattle.work_queue.specs.declared.placing.Placed.{Placed}
 use Rattle.core_run.specs.World.{World, pool_of}

@@ -18,11 +18,21 @@ use std::marker::Model;
 
 /// A flow: at most 100,000 definitions, of distinct names. It is made by `read_flow` alone, and seen as the list of its
 /// definitions, which are numbered from 0.
-#[derive(Drop)]
 pub struct Flow {
     definitions: Vec<Definition>,
     inputs: Vec<Inputs>,
     users: Vec<Vec<u32>>,
+}
+
+// By hand, so that whoever holds a flow lets it go by one call.
+impl Drop for Flow {
+    fn drop(self) {
+        let Flow {
+            definitions,
+            inputs,
+            users,
+        } = self;
+    }
 }
 
 impl Model for Flow {

@@ -31,12 +31,23 @@ impl ReadyRule {
 
 /// The values that are known, which rules are noted since their inputs have values, and these rules in the order in which
 /// they were noted: those before `next` were taken.
-#[derive(Drop)]
 pub struct Store {
     values: Vec<Option<u64>>,
     noted: Vec<bool>,
     ready: Vec<u32>,
     next: usize,
+}
+
+// By hand, so that whoever holds a store lets it go by one call.
+impl Drop for Store {
+    fn drop(self) {
+        let Store {
+            values,
+            noted,
+            ready,
+            next,
+        } = self;
+    }
 }
 
 impl Store {

@@ -16,12 +16,23 @@ struct Way {
 }
 
 /// The units that are under way, and the arrows of those that have arrived.
-#[derive(Drop)]
 pub(crate) struct Moves {
     ranks: u32,
     ways: BTreeMap<(u32, u64), Way>,
     next: u64,
     pub arrows: Vec<u8>,
+}
+
+// By hand, so that whoever holds the moves lets them go by one call.
+impl Drop for Moves {
+    fn drop(self) {
+        let Moves {
+            ranks,
+            ways,
+            next,
+            arrows,
+        } = self;
+    }
 }
 
 impl Moves {
@@ -101,7 +112,7 @@ const TITLE: &[u8] =
 
 // The head of an arrow, which points down or up.
 fn head(from: Server, to: Server) -> &'static [u8] {
-    if from < to {
+    if from.0 < to.0 {
         b"l-3 -6h6l-3 6"
     } else {
         b"l-3 6h6l-3 -6"

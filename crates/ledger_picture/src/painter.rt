@@ -18,7 +18,6 @@ use ledger_rules::Complaint;
 use std::alloc::Global;
 
 /// The lanes of a picture that is being drawn.
-#[derive(Drop)]
 pub(crate) struct Painter {
     numbers: Numbers,
     columns: Columns,
@@ -26,6 +25,20 @@ pub(crate) struct Painter {
     servers: Vec<ServerLane>,
     moves: Moves,
     lines: Vec<u8>,
+}
+
+// By hand, so that whoever holds a painter lets it go by one call.
+impl Drop for Painter {
+    fn drop(self) {
+        let Painter {
+            numbers,
+            columns,
+            ranks,
+            servers,
+            moves,
+            lines,
+        } = self;
+    }
 }
 
 impl Painter {

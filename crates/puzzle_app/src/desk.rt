@@ -20,7 +20,6 @@ use sudoku_rules::{Expansion, Grid, KeptGrid, expand};
 
 /// The units that wait to be put, in order. The solutions and the answers that stay with the rank, and the puzzles
 /// that are over. How many boards, solutions, jobs and answers were made.
-#[derive(Drop)]
 pub struct Desk {
     pub waiting: VecDeque<Made>,
     pub kept: Vec<(u32, KeptGrid)>,
@@ -30,6 +29,22 @@ pub struct Desk {
     pub found: u128,
     pub jobs: u128,
     pub answered: u128,
+}
+
+// By hand, so that whoever holds a desk lets it go by one call.
+impl Drop for Desk {
+    fn drop(self) {
+        let Desk {
+            waiting,
+            kept,
+            answers,
+            overs,
+            boards,
+            found,
+            jobs,
+            answered,
+        } = self;
+    }
 }
 
 impl Desk {
@@ -154,11 +169,21 @@ impl Desk {
         ensures answers { result.answers.items ≡ self.answers.items }
         ensures made { result.made ≡ self.boards ∷ self.found ∷ self.jobs ∷ self.answered ∷ [] }
     {
+        let Desk {
+            waiting: _,
+            kept,
+            answers,
+            overs,
+            boards,
+            found,
+            jobs,
+            answered,
+        } = self;
         Outcome {
-            solutions: self.kept,
-            overs: self.overs,
-            answers: self.answers,
-            made: [self.boards, self.found, self.jobs, self.answered],
+            solutions: kept,
+            overs,
+            answers,
+            made: [boards, found, jobs, answered],
         }
     }
 }

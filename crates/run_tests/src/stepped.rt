@@ -475,7 +475,7 @@ const WORK_2: [Does; 8] = [
     Does::Delivers(FIRST, RANK),
 ];
 
-const SCENES: &[Scene] = &[
+const PUT_SCENES: &[Scene] = &[
     Scene {
         shows: "rejects after every server refused",
         servers: 3,
@@ -515,6 +515,9 @@ const SCENES: &[Scene] = &[
             (Line::Answered, "0"),
         ],
     },
+];
+
+const END_SCENES: &[Scene] = &[
     Scene {
         shows: "a run stops at the first refusal",
         servers: 3,
@@ -556,6 +559,9 @@ const SCENES: &[Scene] = &[
             (Line::Answered, "4"),
         ],
     },
+];
+
+const LOOK_SCENES: &[Scene] = &[
     Scene {
         shows: "a count tells of the units of a type",
         servers: 1,
@@ -617,39 +623,70 @@ const SCENES: &[Scene] = &[
             (Line::Answered, "5"),
         ],
     },
-    Scene {
-        shows: "a common part is fetched with each unit and then freed",
-        servers: 1,
-        lines: &[
-            (Line::Applies(Does::Ends), "refused"),
-            (Line::Runs(BATCH), "9 done"),
-            // A batch is going on, so the rank does not finish.
-            (Line::Applies(Does::Finishes), "refused"),
-            (Line::Plays(&COUNT_1), "3 done"),
-            (Line::Info, "Info { free: 2, top: Some(0), at_top: 2 }"),
-            (Line::Runs(END), "3 done"),
-            (Line::Plays(&WORK_1), "8 done"),
-            (Line::Body, "xy a"),
-            (Line::Plays(&WORK_2), "8 done"),
-            (Line::Body, "xy b"),
-            (
-                Line::Ledger,
-                "keeping 0 0 2; kept 0 0 0; putting 1 0 1; accepted 1 0 0; putting 2 0 1; accepted 2 0 0; \
+];
+
+const BATCH_SCENES: &[Scene] = &[Scene {
+    shows: "a common part is fetched with each unit and then freed",
+    servers: 1,
+    lines: &[
+        (Line::Applies(Does::Ends), "refused"),
+        (Line::Runs(BATCH), "9 done"),
+        // A batch is going on, so the rank does not finish.
+        (Line::Applies(Does::Finishes), "refused"),
+        (Line::Plays(&COUNT_1), "3 done"),
+        (Line::Info, "Info { free: 2, top: Some(0), at_top: 2 }"),
+        (Line::Runs(END), "3 done"),
+        (Line::Plays(&WORK_1), "8 done"),
+        (Line::Body, "xy a"),
+        (Line::Plays(&WORK_2), "8 done"),
+        (Line::Body, "xy b"),
+        (
+            Line::Ledger,
+            "keeping 0 0 2; kept 0 0 0; putting 1 0 1; accepted 1 0 0; putting 2 0 1; accepted 2 0 0; \
                 counting 3 0 0; counted 3 0 2; closing 4 0 0; closed 0 0 0; asked 5 0 0; granted 1 0 0; \
                 fetching 1 0 0; fetched 1 0 0; common fetched 0 0 0; asked 7 0 0; granted 2 0 0; \
                 fetching 2 0 0; fetched 2 0 0; common fetched 0 0 0; freed 0 0 0; ",
-            ),
-            (Line::Left(0), "[]"),
-        ],
-    },
-];
+        ),
+        (Line::Left(0), "[]"),
+    ],
+}];
+
+// What the first scene shows that gives another thing, and at which of its lines.
+fn first_other(alloc: Global, scenes: &[Scene]) -> Result<Option<(&str, usize)>, Fail> {
+    for scene in scenes {
+        if let Some(line) = other_line(alloc, scene)? {
+            return Ok(Some((scene.shows, line)));
+        }
+    }
+    Ok(None)
+}
 
 #[test]
-fn each_line_gives_what_is_beside_it(rt: HostRuntime) -> Result<(), Fail> {
-    for scene in SCENES {
-        let shows = scene.shows;
-        let other = other_line(rt.alloc(), scene)?;
-        assert!(rt; other.is_none(), "{shows}: line {other:?}");
-    }
+fn lines_of_puts_and_what_is_not_enabled_give_what_is_beside_them(
+    rt: HostRuntime,
+) -> Result<(), Fail> {
+    let other = first_other(rt.alloc(), PUT_SCENES)?;
+    assert!(rt; other.is_none(), "{other:?}");
+    Ok(())
+}
+
+#[test]
+fn lines_of_refusals_and_ends_give_what_is_beside_them(rt: HostRuntime) -> Result<(), Fail> {
+    let other = first_other(rt.alloc(), END_SCENES)?;
+    assert!(rt; other.is_none(), "{other:?}");
+    Ok(())
+}
+
+#[test]
+fn lines_of_counts_and_tries_give_what_is_beside_them(rt: HostRuntime) -> Result<(), Fail> {
+    let other = first_other(rt.alloc(), LOOK_SCENES)?;
+    assert!(rt; other.is_none(), "{other:?}");
+    Ok(())
+}
+
+#[test]
+fn lines_of_a_batch_give_what_is_beside_them(rt: HostRuntime) -> Result<(), Fail> {
+    let other = first_other(rt.alloc(), BATCH_SCENES)?;
+    assert!(rt; other.is_none(), "{other:?}");
     Ok(())
 }

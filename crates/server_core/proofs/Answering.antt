@@ -12,12 +12,12 @@ use Rattle.adlb_unit.specs.declared.notes.End.{End}
 use Rattle.adlb_unit.specs.declared.notes.UnitNote.{UnitNote}
 use Rattle.bag_ledger.proofs.Tests.{some_is}
 use Rattle.work_queue.specs.declared.placing.Placed.{Placed}
-use Rattle.reserve_path.specs.Calls.{after_none, asking, asks_next, step_for}
-use Rattle.reserve_path.specs.Grants.{best_for, note_of, pinned_to}
-use Rattle.reserve_path.specs.Parked.{IsParked, entry_of, is_asked, is_idle, is_of, is_pending}
-use Rattle.reserve_path.specs.declared.steps.ReserveStep.TheVariants as comes_to
-use Rattle.reserve_path.specs.declared.waits.Waiting.{Waiting}
-use Rattle.reserve_path.specs.declared.wishes.Wish.{Wish}
+use Rattle.server_components.specs.Calls.{after_none, asking, asks_next, step_for}
+use Rattle.server_components.specs.Grants.{best_for, note_of, pinned_to}
+use Rattle.server_components.specs.Parked.{IsParked, entry_of, is_asked, is_idle, is_of, is_pending}
+use Rattle.server_components.specs.declared.steps.ReserveStep.TheVariants as comes_to
+use Rattle.server_components.specs.declared.waits.Waiting.{Waiting}
+use Rattle.server_components.specs.declared.wishes.Wish.{Wish}
 use Rattle.server_law.specs.Acts.{Act, Asks_on, Gives, Passes_on, Tells, Wakes, to_rank}
 use Rattle.server_law.specs.Asks.{grant_rule, none_rule, pass_at, pass_on, wake, wake_at}
 use Rattle.server_law.specs.Carried.{Served, all_done, counted, done, posted}

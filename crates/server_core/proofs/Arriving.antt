@@ -10,7 +10,7 @@ use Rattle.bag_ledger.specs.declared.entries.Entry.{Entry}
 use Rattle.bag_ledger.specs.declared.entries.Entry.TheVariants as enters
 use Rattle.work_queue.specs.Queue.{with_arrival}
 use Rattle.work_queue.specs.declared.placing.Placed.{Placed}
-use Rattle.reserve_path.specs.declared.wishes.Wish.{Wish}
+use Rattle.server_components.specs.declared.wishes.Wish.{Wish}
 use Rattle.server_law.specs.Acts.{Act, Acks, Arrives, Hints, does, entries, says, to_server}
 use Rattle.server_law.specs.Carried.{Served, all_done, carried, counted, done, joined, posted, sends}
 use Rattle.server_law.specs.Finding.{Place, is_free_as, taker}

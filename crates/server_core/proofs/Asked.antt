@@ -5,9 +5,9 @@ use Rattle.adlb_unit.specs.declared.messages.Message.TheVariants as tells
 use Rattle.adlb_unit.specs.declared.names.Server.{Server}
 use Rattle.adlb_unit.specs.declared.notes.UnitNote.{UnitNote}
 use Rattle.work_queue.specs.declared.placing.Placed.{Placed}
-use Rattle.reserve_path.specs.Calls.{after_ask}
-use Rattle.reserve_path.specs.Grants.{best_for, note_of}
-use Rattle.reserve_path.specs.declared.wishes.Wish.{Wish}
+use Rattle.server_components.specs.Calls.{after_ask}
+use Rattle.server_components.specs.Grants.{best_for, note_of}
+use Rattle.server_components.specs.declared.wishes.Wish.{Wish}
 use Rattle.server_law.specs.Acts.{Declines, to_server}
 use Rattle.server_law.specs.Asks.{answer, answer_now, ask_rule, expects_ask}
 use Rattle.server_law.specs.Plan.{Plan}

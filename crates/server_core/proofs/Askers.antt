@@ -9,9 +9,9 @@ use Rattle.adlb_unit.specs.declared.configs.Config.{Config}
 use Rattle.adlb_unit.specs.declared.names.Server.{Server}
 use Rattle.exhaust_ring.specs.Expected.{AreParked}
 use Rattle.exhaust_ring.specs.Ring.{Asker, RingModel}
-use Rattle.reserve_path.specs.Calls.{wants}
-use Rattle.reserve_path.specs.Parked.{IsParked, IsWaiting, ParkedModel}
-use Rattle.reserve_path.specs.declared.waits.Waiting.{Waiting}
+use Rattle.server_components.specs.Calls.{wants}
+use Rattle.server_components.specs.Parked.{IsParked, IsWaiting, ParkedModel}
+use Rattle.server_components.specs.declared.waits.Waiting.{Waiting}
 use Rattle.server_law.specs.State.{ring_at}
 use Rattle.server_core.specs.inside.{IsInside, parked_of, state_of}
 use Rattle.server_core.specs.declared.states.ServerState.TheInside.{Inside}

@@ -10,9 +10,9 @@ use Rattle.adlb_unit.specs.declared.notes.End.{End}
 use Rattle.bag_ledger.proofs.Tests.{some_is}
 use Rattle.work_queue.specs.declared.placing.Placed.{Placed}
 use Rattle.work_queue.proofs.Searched.{find_none}
-use Rattle.reserve_path.specs.Parked.{entry_of, is_of}
-use Rattle.reserve_path.specs.declared.waits.Waiting.{Waiting}
-use Rattle.reserve_path.specs.declared.wishes.Wish.{Wish}
+use Rattle.server_components.specs.Parked.{entry_of, is_of}
+use Rattle.server_components.specs.declared.waits.Waiting.{Waiting}
+use Rattle.server_components.specs.declared.wishes.Wish.{Wish}
 use Rattle.server_law.specs.Acts.{Around, Tells}
 use Rattle.server_law.specs.Finding.{place_in}
 use Rattle.server_law.specs.State.{ServerModel, is_waiting}

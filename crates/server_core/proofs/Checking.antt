@@ -24,7 +24,7 @@ use Rattle.exhaust_ring.specs.Tests.{first_failing}
 use Rattle.exhaust_ring.specs.Visits.{Outcome, judged, outcome, found_of, verdict_of, visited1, visited2}
 use Rattle.exhaust_ring.specs.declared.steps.RingStep.{RingStep}
 use Rattle.exhaust_ring.specs.declared.steps.RingStep.TheVariants.{Pass, Fail, Exhausted, Shutdown, Ended}
-use Rattle.reserve_path.specs.Parked.{Parked}
+use Rattle.server_components.specs.Parked.{Parked}
 use Rattle.server_law.specs.Acts.{Act, Fails, Finds, Gives_up, Hears_exhaust, Marks, Passes, ServerSaying, Shuts, askers, does, entries}
 use Rattle.server_law.specs.Acts.{says, tested_in, to_others, to_server}
 use Rattle.server_law.specs.Carried.{Served, all_counted, carried, counted, done, joined, posted, stamped}

@@ -19,16 +19,16 @@ use Rattle.adlb_unit.specs.declared.names.Rank.{Rank}
 use Rattle.adlb_unit.specs.declared.names.Server.{Server}
 use Rattle.adlb_unit.specs.declared.names.UnitId.{UnitId}
 use Rattle.adlb_unit.specs.declared.names.WorkType.{WorkType}
-use Rattle.batch_store.specs.Store.{part_in}
-use Rattle.batch_store.specs.declared.parts.Part.{Part}
+use Rattle.server_components.specs.Store.{part_in}
+use Rattle.server_components.specs.declared.parts.Part.{Part}
 use Rattle.bag_ledger.specs.declared.entries.Entry.{Entry}
 use Rattle.bag_ledger.proofs.Tests.{some_is}
 use Rattle.work_queue.specs.Queue.{HasPinned, Queue, id_of}
 use Rattle.work_queue.specs.declared.placing.Placed.{Placed}
-use Rattle.reserve_path.specs.Calls.{after_ask, after_none, asking, asks_next, gone, hears_of, hinted, is_since, reserved, turned, wished}
-use Rattle.reserve_path.specs.Grants.{best_for, pinned_to}
-use Rattle.reserve_path.specs.Parked.{Parked, is_by, is_of}
-use Rattle.reserve_path.specs.declared.wishes.Wish.{Wish}
+use Rattle.server_components.specs.Calls.{after_ask, after_none, asking, asks_next, gone, hears_of, hinted, is_since, reserved, turned, wished}
+use Rattle.server_components.specs.Grants.{best_for, pinned_to}
+use Rattle.server_components.specs.Parked.{Parked, is_by, is_of}
+use Rattle.server_components.specs.declared.wishes.Wish.{Wish}
 use Rattle.server_law.specs.Acts.{Act, Around, Asks_on, Closes, Fetches, ServerSaying, does, entries, says, to_server, unwished}
 use Rattle.server_law.specs.Batches.{can_close, close, close_rule, part_if}
 use Rattle.server_law.specs.Endings.{checks, ends_event, notices}

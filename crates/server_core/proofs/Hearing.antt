@@ -6,10 +6,10 @@ use Rattle.std.proofs.lemmas.Bool.{and_from, and_left, and_parts, eq-eqb, eqb-tr
 use Rattle.adlb_unit.specs.declared.names.Rank.{Rank}
 use Rattle.adlb_unit.specs.declared.names.Server.{Server}
 use Rattle.bag_ledger.proofs.Tests.{some_is}
-use Rattle.reserve_path.proofs.Places.{none_any, none_turned}
-use Rattle.reserve_path.specs.Calls.{hears_of, is_idle_since, is_since}
-use Rattle.reserve_path.specs.Parked.{IsHere, IsOther, IsParked, entry_of, is_idle, is_of}
-use Rattle.reserve_path.specs.declared.waits.Waiting.{Waiting}
+use Rattle.server_components.proofs.Places.{none_any, none_turned}
+use Rattle.server_components.specs.Calls.{hears_of, is_idle_since, is_since}
+use Rattle.server_components.specs.Parked.{IsHere, IsOther, IsParked, entry_of, is_idle, is_of}
+use Rattle.server_components.specs.declared.waits.Waiting.{Waiting}
 use Rattle.server_law.specs.Acts.{Act, Asks_on, Drops_hint, Is_hinted, hinted}
 use Rattle.server_law.specs.Carried.{done}
 use Rattle.server_law.specs.Finding.{Place, place_in}

@@ -14,9 +14,9 @@ use Rattle.adlb_unit.specs.declared.actors.Actor.TheVariants as by
 use Rattle.adlb_unit.specs.declared.messages.Message.TheVariants as tells
 use Rattle.adlb_unit.specs.declared.units.Unit.{Unit}
 use Rattle.work_queue.proofs.Searched.{find_none}
-use Rattle.reserve_path.specs.Calls.{call_of, forgotten_if, hints_next, is_soft_for, or_else, suits, suits_first}
-use Rattle.reserve_path.specs.Parked.{IsParked, is_by}
-use Rattle.reserve_path.specs.declared.wishes.Wish.{Wish}
+use Rattle.server_components.specs.Calls.{call_of, forgotten_if, hints_next, is_soft_for, or_else, suits, suits_first}
+use Rattle.server_components.specs.Parked.{IsParked, is_by}
+use Rattle.server_components.specs.declared.wishes.Wish.{Wish}
 use Rattle.server_law.specs.Acts.{Hints, ServerSaying, to_server, unwished}
 use Rattle.server_law.specs.Carried.{counted, posted}
 use Rattle.server_law.specs.Finding.{permits}

@@ -8,8 +8,8 @@ use Rattle.adlb_unit.specs.declared.names.BatchId.{BatchId}
 use Rattle.adlb_unit.specs.declared.names.Rank.{Rank}
 use Rattle.bag_ledger.specs.declared.entries.Entry.TheVariants as enters
 use Rattle.work_queue.specs.Queue.{Exceeds, Queue, charge_of, with_common, without_common}
-use Rattle.batch_store.specs.Store.{Store, changed, frees, part_in, released, size_of, with_fresh, fresh}
-use Rattle.batch_store.specs.declared.parts.Part.{Part}
+use Rattle.server_components.specs.Store.{Store, changed, frees, part_in, released, size_of, with_fresh, fresh}
+use Rattle.server_components.specs.declared.parts.Part.{Part}
 use Rattle.server_law.specs.Acts.{batch_of, to_rank, unit_of}
 use Rattle.server_law.specs.Batches.{keep_now}
 use Rattle.server_law.specs.Carried.{counted, posted}

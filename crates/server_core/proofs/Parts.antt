@@ -13,9 +13,9 @@ use Rattle.adlb_unit.specs.Ids.{same_batch}
 use Rattle.adlb_unit.specs.declared.names.BatchId.{BatchId}
 use Rattle.bag_ledger.proofs.Tests.{some_is}
 use Rattle.work_queue.specs.Queue.{Queue, without_common}
-use Rattle.batch_store.specs.Store.{CanClose, CanFetch, Keeps, Store, by_batch, changed, counts, frees, part_in, released, size_of}
-use Rattle.batch_store.specs.Store.{with_turned, without}
-use Rattle.batch_store.specs.declared.parts.Part.{Part}
+use Rattle.server_components.specs.Store.{CanClose, CanFetch, Keeps, Store, by_batch, changed, counts, frees, part_in, released, size_of}
+use Rattle.server_components.specs.Store.{with_turned, without}
+use Rattle.server_components.specs.declared.parts.Part.{Part}
 use Rattle.server_core.specs.inside.{bytes_in, bytes_of}
 
 -- the first part, and the others

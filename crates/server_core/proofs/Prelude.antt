@@ -19,17 +19,17 @@ pub use Rattle.work_queue.specs.Fits.{first_fit}
 pub use Rattle.work_queue.specs.Queue.{Exceeds, HasFree, Queue, id_of}
 pub use Rattle.work_queue.specs.declared.placing.Placed.{Placed}
 pub use Rattle.work_queue.specs.declared.placing.UnitFacts.{UnitFacts}
-pub use Rattle.put_path.specs.Pushes.{PushModel, asks_room, has_sent, is_push_as}
-pub use Rattle.batch_store.specs.Store.{closed, fetched}
+pub use Rattle.server_components.specs.Pushes.{PushModel, asks_room, has_sent, is_push_as}
+pub use Rattle.server_components.specs.Store.{closed, fetched}
 pub use Rattle.exhaust_ring.specs.Expected.{HasComeBack, IsRunning, IsToTest, is_running}
 pub use Rattle.exhaust_ring.specs.Ring.{RingModel}
 pub use Rattle.exhaust_ring.specs.Tests.{first_failing}
 pub use Rattle.exhaust_ring.specs.Visits.{Outcome, verdict_of, visited1, visited2}
-pub use Rattle.reserve_path.specs.Calls.{after_none, asking, asks_next, first_idle, given, gone_if, granted, hints_next, is_idle_since}
-pub use Rattle.reserve_path.specs.Calls.{step_for, taker_of}
-pub use Rattle.reserve_path.specs.Grants.{best_for, with_grant}
-pub use Rattle.reserve_path.specs.Parked.{IsParked, ParkedModel, entry_of}
-pub use Rattle.reserve_path.specs.declared.waits.Waiting.{Waiting}
+pub use Rattle.server_components.specs.Calls.{after_none, asking, asks_next, first_idle, given, gone_if, granted, hints_next, is_idle_since}
+pub use Rattle.server_components.specs.Calls.{step_for, taker_of}
+pub use Rattle.server_components.specs.Grants.{best_for, with_grant}
+pub use Rattle.server_components.specs.Parked.{IsParked, ParkedModel, entry_of}
+pub use Rattle.server_components.specs.declared.waits.Waiting.{Waiting}
 pub use Rattle.server_law.proofs.Expected.{expected_have_steps, rule_awaited}
 pub use Rattle.server_law.proofs.Found.{free_is, free_there, none_free, some_there}
 pub use Rattle.server_law.proofs.Settling.{settles_none}

@@ -12,8 +12,8 @@ use Rattle.bag_ledger.specs.declared.entries.Entry.TheVariants as enters
 use Rattle.bag_ledger.proofs.Tests.{some_is}
 use Rattle.work_queue.specs.Queue.{HasFree, Queue, charge_of, id_of, without, without_promise}
 use Rattle.work_queue.specs.declared.placing.Placed.{Placed}
-use Rattle.put_path.specs.Pushes.{IsPromise, PushModel, Pushing, asks_room, has_sent, with_push, with_pushing}
-use Rattle.put_path.proofs.StandingPushes.{push_from}
+use Rattle.server_components.specs.Pushes.{IsPromise, PushModel, Pushing, asks_room, has_sent, with_push, with_pushing}
+use Rattle.server_components.proofs.StandingPushes.{push_from}
 use Rattle.server_law.specs.Acts.{Cancels, Promises, Refuses_push, Sends_unit, Withdraws, does, to_server}
 use Rattle.server_law.specs.Carried.{Served, counted, posted}
 use Rattle.server_law.specs.Finding.{exceeds, has_promise, is_free_as}

@@ -2,7 +2,7 @@
 use Rattle.std.proofs.Common.{◌≡◌, ◌↔◌, ◌<◌, ◌+◌, ◌-◌, ℕ, suc, Bool, true, false, ◌&&◌, Option, None, Some, IsTrue, refl, sym, subst, arith}
 use Rattle.std.specs.Prelude.{is_none, is_some}
 use Rattle.std.specs.List.{list_all, range_with_len}
-use Rattle.put_path.specs.declared.standing.StandingPush.{StandingPush}
+use Rattle.server_components.specs.declared.standing.StandingPush.{StandingPush}
 use Rattle.server_law.specs.Endings.{is_quiet, rests}
 use Rattle.server_law.specs.Expected.{IsQuiet}
 use Rattle.server_law.specs.State.{ServerModel}

@@ -6,11 +6,11 @@ use Rattle.adlb_unit.specs.declared.names.Server.{Server}
 use Rattle.adlb_unit.specs.declared.notes.End.{End}
 use Rattle.bag_ledger.proofs.Tests.{some_is}
 use Rattle.work_queue.specs.declared.placing.Placed.{Placed}
-use Rattle.reserve_path.specs.Calls.{asking, reserved, step_for}
-use Rattle.reserve_path.specs.Grants.{best_for, pinned_to}
-use Rattle.reserve_path.specs.Parked.{entry_of, is_of}
-use Rattle.reserve_path.specs.declared.steps.ReserveStep.TheVariants as comes_to
-use Rattle.reserve_path.specs.declared.wishes.Wish.{Wish}
+use Rattle.server_components.specs.Calls.{asking, reserved, step_for}
+use Rattle.server_components.specs.Grants.{best_for, pinned_to}
+use Rattle.server_components.specs.Parked.{entry_of, is_of}
+use Rattle.server_components.specs.declared.steps.ReserveStep.TheVariants as comes_to
+use Rattle.server_components.specs.declared.wishes.Wish.{Wish}
 use Rattle.server_law.specs.Acts.{Act, Around, Asks_on, Ends_reserve, Grants, Parks}
 use Rattle.server_law.specs.Carried.{done}
 use Rattle.server_law.specs.Expected.{IsHome, Runs}

@@ -7,8 +7,8 @@ use Rattle.std.proofs.lemmas.Nat.{mod-mul-add}
 use Rattle.adlb_unit.specs.Ring.{behind}
 use Rattle.adlb_unit.specs.declared.configs.Config.{Config}
 use Rattle.adlb_unit.specs.declared.names.Server.{Server}
-use Rattle.reserve_path.specs.Calls.{with_server}
-use Rattle.reserve_path.specs.Parked.{IsOther}
+use Rattle.server_components.specs.Calls.{with_server}
+use Rattle.server_components.specs.Parked.{IsOther}
 
 -- the number of the server `k` places after this one
 behind_is : (config : Config) (me : Server) (k : ℕ) → me.0 < config.servers → k < config.servers

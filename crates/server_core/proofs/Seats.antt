@@ -12,10 +12,10 @@ use Rattle.adlb_unit.specs.declared.names.Rank.{Rank}
 use Rattle.adlb_unit.specs.declared.names.Server.{Server}
 use Rattle.bag_ledger.proofs.Tests.{some_is}
 use Rattle.work_queue.proofs.Searched.{find_first, find_none}
-use Rattle.reserve_path.proofs.Places.{AreApart, none_any, none_turned}
-use Rattle.reserve_path.specs.Calls.{is_since, request_of, turned}
-use Rattle.reserve_path.specs.Parked.{ParkedModel, entry_of, is_asked, is_idle, is_of, is_pending}
-use Rattle.reserve_path.specs.declared.waits.Waiting.{Waiting}
+use Rattle.server_components.proofs.Places.{AreApart, none_any, none_turned}
+use Rattle.server_components.specs.Calls.{is_since, request_of, turned}
+use Rattle.server_components.specs.Parked.{ParkedModel, entry_of, is_asked, is_idle, is_of, is_pending}
+use Rattle.server_components.specs.declared.waits.Waiting.{Waiting}
 use Rattle.server_law.specs.Expected.{IsUnanswered}
 use Rattle.server_law.specs.Finding.{Place, has_asked, place_in}
 use Rattle.server_law.specs.State.{ServerModel}

@@ -11,10 +11,10 @@ use Rattle.adlb_unit.specs.declared.notes.UnitNote.{UnitNote}
 use Rattle.adlb_unit.specs.declared.units.Unit.{Unit}
 use Rattle.bag_ledger.proofs.Tests.{some_is}
 use Rattle.work_queue.specs.declared.placing.Placed.{Placed}
-use Rattle.reserve_path.specs.Calls.{given, gone_if, granted, or_else, taker as taker_at, taker_of}
-use Rattle.reserve_path.specs.Grants.{note_of, pinned_to}
-use Rattle.reserve_path.specs.Parked.{IsParked, Parked, is_of}
-use Rattle.reserve_path.specs.declared.waits.Waiting.{Waiting}
+use Rattle.server_components.specs.Calls.{given, gone_if, granted, or_else, taker as taker_at, taker_of}
+use Rattle.server_components.specs.Grants.{note_of, pinned_to}
+use Rattle.server_components.specs.Parked.{IsParked, Parked, is_of}
+use Rattle.server_components.specs.declared.waits.Waiting.{Waiting}
 use Rattle.server_law.specs.Finding.{Place, behind_one, is_free_as, is_idle_first, is_idle_for, place_in, taker}
 use Rattle.server_law.specs.Hints.{hint_all}
 use Rattle.server_law.specs.Puts.{gives, settles, settles_as}

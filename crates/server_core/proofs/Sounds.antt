@@ -6,16 +6,16 @@ use Rattle.adlb_unit.specs.declared.names.WorkType.{WorkType}
 use Rattle.work_queue.specs.Queue.{Queue}
 use Rattle.work_queue.specs.declared.placing.Placed.{Placed}
 use Rattle.work_queue.proofs.Searched.{find_first}
-use Rattle.reserve_path.specs.Calls.{after_ask, after_none, asks_next, forgotten_if, given, gone, gone_if, hears_of, hinted, is_since}
-use Rattle.reserve_path.specs.Calls.{reserved}
-use Rattle.reserve_path.specs.Grants.{best_for, pinned_to, with_grant}
-use Rattle.reserve_path.specs.Parked.{IsAway, IsHere, IsOther, IsParked, IsWaiting, Parked, ParkedModel, is_of, is_parked}
-use Rattle.reserve_path.specs.declared.waits.Waiting.{Waiting}
-use Rattle.reserve_path.specs.declared.wishes.Wish.{Wish}
-use Rattle.reserve_path.proofs.Sound.{forgotten_sound, gone_sound, heard_waits, heard_wish, next_waits, parked_sound, parks_waits}
-use Rattle.reserve_path.proofs.Sound.{turned_sound, waiting_few, wished_sound, wishes_few}
-use Rattle.reserve_path.proofs.Places.{nobody}
-use Rattle.reserve_path.specs.Calls.{asking}
+use Rattle.server_components.specs.Calls.{after_ask, after_none, asks_next, forgotten_if, given, gone, gone_if, hears_of, hinted, is_since}
+use Rattle.server_components.specs.Calls.{reserved}
+use Rattle.server_components.specs.Grants.{best_for, pinned_to, with_grant}
+use Rattle.server_components.specs.Parked.{IsAway, IsHere, IsOther, IsParked, IsWaiting, Parked, ParkedModel, is_of, is_parked}
+use Rattle.server_components.specs.declared.waits.Waiting.{Waiting}
+use Rattle.server_components.specs.declared.wishes.Wish.{Wish}
+use Rattle.server_components.proofs.Sound.{forgotten_sound, gone_sound, heard_waits, heard_wish, next_waits, parked_sound, parks_waits}
+use Rattle.server_components.proofs.Sound.{turned_sound, waiting_few, wished_sound, wishes_few}
+use Rattle.server_components.proofs.Places.{nobody}
+use Rattle.server_components.specs.Calls.{asking}
 use Rattle.adlb_unit.specs.Ring.{others}
 use Rattle.exhaust_ring.specs.Ring.{AreOfOne, RingModel}
 use Rattle.server_law.specs.State.{ServerModel}

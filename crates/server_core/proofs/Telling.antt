@@ -14,10 +14,10 @@ use Rattle.adlb_unit.specs.declared.notes.End.{End}
 use Rattle.bag_ledger.specs.declared.entries.Entry.TheVariants as enters
 use Rattle.bag_ledger.proofs.Tests.{some_is}
 use Rattle.work_queue.proofs.Searched.{find_none}
-use Rattle.reserve_path.proofs.Places.{AreApart}
-use Rattle.reserve_path.specs.Calls.{call_of, first_idle, gone, gone_if}
-use Rattle.reserve_path.specs.Parked.{IsParked, is_idle, is_of}
-use Rattle.reserve_path.specs.declared.waits.Waiting.{Waiting}
+use Rattle.server_components.proofs.Places.{AreApart}
+use Rattle.server_components.specs.Calls.{call_of, first_idle, gone, gone_if}
+use Rattle.server_components.specs.Parked.{IsParked, is_idle, is_of}
+use Rattle.server_components.specs.declared.waits.Waiting.{Waiting}
 use Rattle.server_law.specs.Acts.{Act, Around, Tells, to_rank}
 use Rattle.server_law.specs.Carried.{counted, posted}
 use Rattle.server_law.specs.Endings.{tells_all, tells_one}

@@ -11,17 +11,17 @@ use Rattle.adlb_unit.specs.declared.names.Server.{Server}
 use Rattle.adlb_unit.specs.declared.names.UnitId.{UnitId}
 use Rattle.adlb_unit.specs.declared.notes.End.{End}
 use Rattle.adlb_unit.specs.declared.units.Unit.{Unit as Work}
-use Rattle.batch_store.specs.Store.{part_in}
-use Rattle.batch_store.specs.declared.parts.Part.{Part}
+use Rattle.server_components.specs.Store.{part_in}
+use Rattle.server_components.specs.declared.parts.Part.{Part}
 use Rattle.exhaust_ring.specs.Expected.{expects, is_running}
 use Rattle.exhaust_ring.specs.Ring.{Asker}
-use Rattle.put_path.specs.Pushes.{is_push_as, query_of}
-use Rattle.put_path.specs.declared.pushing.PushQuery.{PushQuery}
-use Rattle.put_path.specs.declared.standing.StandingPush.{StandingPush}
-use Rattle.reserve_path.specs.Calls.{is_since}
-use Rattle.reserve_path.specs.Parked.{is_idle, is_of}
-use Rattle.reserve_path.specs.declared.waits.Waiting.{Waiting}
-use Rattle.reserve_path.specs.declared.wishes.Wish.{Wish}
+use Rattle.server_components.specs.Pushes.{is_push_as, query_of}
+use Rattle.server_components.specs.declared.pushing.PushQuery.{PushQuery}
+use Rattle.server_components.specs.declared.standing.StandingPush.{StandingPush}
+use Rattle.server_components.specs.Calls.{is_since}
+use Rattle.server_components.specs.Parked.{is_idle, is_of}
+use Rattle.server_components.specs.declared.waits.Waiting.{Waiting}
+use Rattle.server_components.specs.declared.wishes.Wish.{Wish}
 use Rattle.work_queue.specs.declared.placing.Placed.{Placed}
 use Rattle.server_law.specs.Acts.{Act, Around, Checks_alone, Ends_push, Fails, Finds_alone, Heard, Hints, ServerSaying, Shuts_alone, Starts}
 use Rattle.server_law.specs.Acts.{Stops_push, does, says, takes}

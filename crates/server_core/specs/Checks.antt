@@ -8,7 +8,7 @@ use Rattle.bag_ledger.specs.declared.entries.Entry.TheVariants as enters
 use Rattle.exhaust_ring.specs.Ring.{RingModel}
 use Rattle.exhaust_ring.specs.declared.steps.RingStep.{RingStep}
 use Rattle.exhaust_ring.specs.declared.steps.RingStep.TheVariants.{Pass, Fail, Exhausted, Shutdown, Ended}
-use Rattle.reserve_path.specs.declared.waits.Waiting.{Waiting}
+use Rattle.server_components.specs.declared.waits.Waiting.{Waiting}
 use Rattle.server_core.specs.Out.{Out, going_on}
 use Rattle.server_law.specs.Acts.{Act, ServerSaying, onward, to_others, to_server, zeroth}
 use Rattle.server_law.specs.Carried.{Served, all_counted, stamped}

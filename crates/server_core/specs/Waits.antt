@@ -12,13 +12,13 @@ use Rattle.adlb_unit.specs.declared.notes.UnitNote.{UnitNote}
 use Rattle.bag_ledger.specs.declared.entries.Entry.TheVariants as enters
 use Rattle.work_queue.specs.Queue.{Queue}
 use Rattle.work_queue.specs.declared.placing.Placed.{Placed}
-use Rattle.reserve_path.specs.Calls.{after_ask, after_none, first_idle, forgotten_if, given, gone, gone_if, hinted, hints_next, reserved}
-use Rattle.reserve_path.specs.Calls.{taker_of}
-use Rattle.reserve_path.specs.Grants.{best_for, pinned_to}
-use Rattle.reserve_path.specs.Parked.{Parked, ParkedModel}
-use Rattle.reserve_path.specs.declared.steps.ReserveStep.{ReserveStep}
-use Rattle.reserve_path.specs.declared.steps.ReserveStep.TheVariants.{Granted, Ask, Idle}
-use Rattle.reserve_path.specs.declared.wishes.Wish.{Wish}
+use Rattle.server_components.specs.Calls.{after_ask, after_none, first_idle, forgotten_if, given, gone, gone_if, hinted, hints_next, reserved}
+use Rattle.server_components.specs.Calls.{taker_of}
+use Rattle.server_components.specs.Grants.{best_for, pinned_to}
+use Rattle.server_components.specs.Parked.{Parked, ParkedModel}
+use Rattle.server_components.specs.declared.steps.ReserveStep.{ReserveStep}
+use Rattle.server_components.specs.declared.steps.ReserveStep.TheVariants.{Granted, Ask, Idle}
+use Rattle.server_components.specs.declared.wishes.Wish.{Wish}
 use Rattle.server_core.specs.inside.{parked_of}
 use Rattle.server_core.specs.Out.{Out, made, with_answer, with_letter}
 use Rattle.server_law.specs.Acts.{to_rank, to_server}

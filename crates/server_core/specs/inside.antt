@@ -2,9 +2,9 @@
 use Rattle.std.specs.Prelude.{◌≡◌, ◌+◌, ◌*◌, ◌<◌, ◌≤◌, ℕ, None, length, sum_by, All}
 use Rattle.adlb_unit.specs.Limits.{stamp_limit}
 use Rattle.adlb_unit.specs.declared.names.BatchId.{BatchId}
-use Rattle.batch_store.specs.Store.{Store}
-use Rattle.batch_store.specs.declared.parts.Part.{Part}
-use Rattle.reserve_path.specs.Parked.{IsParked, ParkedModel}
+use Rattle.server_components.specs.Store.{Store}
+use Rattle.server_components.specs.declared.parts.Part.{Part}
+use Rattle.server_components.specs.Parked.{IsParked, ParkedModel}
 use Rattle.server_core.specs.Out.{event_letters}
 use Rattle.server_core.specs.declared.states.ServerState.TheInside.{Inside}
 use Rattle.server_law.specs.State.{ServerModel}

@@ -1,7 +1,7 @@
 //! The letters Ask, AskGrant and AskNone: the home of a rank that waits asks another server for it, and is answered.
 
 ghost use Rattle.std.specs.Prelude.{◌≡◌, Some};
-ghost use Rattle.reserve_path.specs.Parked.{IsOther};
+ghost use Rattle.server_components.specs.Parked.{IsOther};
 ghost use Rattle.server_core.specs.Out.{HasRoom, Out, made, planned};
 ghost use Rattle.server_law.specs.Asks.{ask_rule, grant_rule, none_rule};
 ghost use Rattle.server_law.specs.Expected.{IsAwaitedFrom, IsUnanswered};

@@ -1,8 +1,8 @@
 //! The letters about batches and their common parts: KeepCommon, CloseBatch and FetchCommon.
 
 ghost use Rattle.std.specs.Prelude.{◌≡◌, ◌<◌, ◌∷◌, [], OnOk, OnErr, Some, if◌then◌else◌};
-ghost use Rattle.batch_store.specs.Store.{CanClose, CanFetch, Keeps, part_in};
-ghost use Rattle.batch_store.specs.declared.parts.Part.{Part};
+ghost use Rattle.server_components.specs.Store.{CanClose, CanFetch, Keeps, part_in};
+ghost use Rattle.server_components.specs.declared.parts.Part.{Part};
 ghost use Rattle.server_core.specs.Out.{HasRoom, Out, going_on, made, with_entry};
 ghost use Rattle.server_law.specs.Acts.{Act, Closes, Fetches_part};
 ghost use Rattle.server_law.specs.Batches.{keep_now};

@@ -1,7 +1,7 @@
 //! Which letters a server expects.
 
 ghost use Rattle.std.specs.Prelude.{◌≡◌, ◌<◌, ◌↔◌, IsTrue, IsSome, None, length};
-ghost use Rattle.batch_store.specs.Store.{CanClose, CanFetch, Keeps, part_in};
+ghost use Rattle.server_components.specs.Store.{CanClose, CanFetch, Keeps, part_in};
 ghost use Rattle.server_law.specs.Acts.{batch_of};
 ghost use Rattle.server_law.specs.Expected.{IsAwaited, IsAwaitedFrom, IsExpected, IsNew};
 ghost use Rattle.server_law.specs.State.{Kept, ServerModel, runs_at_home};

@@ -3,7 +3,7 @@
 ghost use Rattle.std.specs.Prelude.{◌≡◌, ◌<◌, ◌+◌, ℕ, [], true, false, Some, length};
 ghost use Rattle.adlb_unit.specs.Targets.{home};
 ghost use Rattle.adlb_unit.specs.declared.units.Unit.{Unit};
-ghost use Rattle.reserve_path.specs.Parked.{IsHere, IsOther};
+ghost use Rattle.server_components.specs.Parked.{IsHere, IsOther};
 ghost use Rattle.server_core.specs.Out.{HasPlaces, HasRoom, Out, going_on, made, planned, with_letter};
 ghost use Rattle.server_law.specs.Acts.{to_server};
 ghost use Rattle.server_law.specs.Carried.{counted, posted};

@@ -1,10 +1,10 @@
 //! One server: what it keeps, and what it does with each letter.
 //!
-//! It stands on the letters of `adlb_unit` and the ledger's entries of `bag_ledger`, and on a crate for each of its
-//! parts. The queue is `work_queue`, puts and pushes are `put_path`, common parts `batch_store`, the ranks that wait
-//! `reserve_path`, and checks `exhaust_ring`. Contracts see a server as `specs/State.antt` of `server_law` has it,
-//! and a step carries out the acts that `specs/Step.antt` there names. A file for each family of letters has what is
-//! done with them; what follows each event is in `src/ending.rt`. The code serves any number of ranks and servers.
+//! It stands on the letters of `adlb_unit` and the ledger's entries of `bag_ledger`, and on what a server is made of.
+//! The queue is `work_queue`, checks are `exhaust_ring`, and pushes, ranks that wait and common parts
+//! `server_components`. Contracts see a server as `specs/State.antt` of `server_law` has it, and a step carries out
+//! the acts that `specs/Step.antt` there names. A file for each family of letters has what is done with them; what
+//! follows each event is in `src/ending.rt`. The code serves any number of ranks and servers.
 #![tactic(auto)]
 
 mod asks;

@@ -2,7 +2,7 @@
 //! it, and PushNo ends the push. PushUnit brings the unit, or PushCancel takes the promise back; PushAck ends the push.
 
 ghost use Rattle.std.specs.Prelude.{◌≡◌, ◌<◌, ℕ, IsTrue, OnErr, OnOk, Some};
-ghost use Rattle.put_path.specs.Pushes.{Asks, asks_room, has_sent, is_query, is_under_way};
+ghost use Rattle.server_components.specs.Pushes.{Asks, asks_room, has_sent, is_query, is_under_way};
 ghost use Rattle.server_core.specs.Out.{HasRoom, Out, going_on, made, planned};
 ghost use Rattle.server_law.specs.Acts.{Act, Ends_push, Stops_push};
 ghost use Rattle.server_law.specs.Carried.{done};
@@ -17,7 +17,7 @@ use crate::outgoing::Outgoing;
 use crate::states::ServerState;
 use adlb_unit::{Actor, Message, NoMemory, Server, Unit, UnitId};
 use bag_ledger::Entry;
-use put_path::{Push, push_query};
+use server_components::{Push, push_query};
 
 impl ServerState {
     // If a unit was taken, the queue is pressed, no push stands and a unit may move, the next of the other servers is asked

@@ -13,7 +13,7 @@ use crate::outgoing::Outgoing;
 use crate::states::ServerState;
 use adlb_unit::{Actor, End, Message, NoMemory, Rank, Target, Unit, UnitId, WorkType};
 use bag_ledger::Entry;
-use put_path::{PutStep, put};
+use server_components::{PutStep, put};
 
 impl ServerState {
     // The unit is taken, if there is room, and goes to a rank that waits for it; and then a push may begin.

@@ -2,9 +2,9 @@
 
 ghost use Rattle.std.specs.Prelude.{◌≡◌, ◌<◌, ◌+◌, ℕ, Some, IsTrue};
 ghost use Rattle.adlb_unit.specs.declared.names.Server.{Server};
-ghost use Rattle.reserve_path.specs.Parked.{entry_of};
-ghost use Rattle.reserve_path.specs.declared.waits.Waiting.{Waiting};
-ghost use Rattle.reserve_path.specs.declared.wishes.Wish.{Wish};
+ghost use Rattle.server_components.specs.Parked.{entry_of};
+ghost use Rattle.server_components.specs.declared.waits.Waiting.{Waiting};
+ghost use Rattle.server_components.specs.declared.wishes.Wish.{Wish};
 ghost use Rattle.server_core.specs.Out.{HasPlaces, HasRoom, Out, made, planned, with_answer};
 ghost use Rattle.server_core.specs.inside.{parked_of};
 ghost use Rattle.server_core.specs.Waits.{told_step};
@@ -19,7 +19,7 @@ use crate::outgoing::Outgoing;
 use crate::states::ServerState;
 use adlb_unit::{Actor, End, Message, Rank, Types, UnitNote};
 use bag_ledger::Entry;
-use reserve_path::ReserveStep;
+use server_components::ReserveStep;
 
 impl ServerState {
     // The rank gets the best free unit; otherwise it waits, and the first of the other servers is asked.

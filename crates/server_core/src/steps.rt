@@ -2,7 +2,7 @@
 
 ghost use Rattle.std.specs.Prelude.{◌≡◌, ◌≤◌, ◌<◌, ◌+◌, ℕ, ◌↔◌, length, None, Some, Err, IsSome, IfOk, IfErr, IfSome, OnOk, OnErr};
 ghost use Rattle.std.specs.Option.{option_map};
-ghost use Rattle.reserve_path.specs.Parked.{IsOther};
+ghost use Rattle.server_components.specs.Parked.{IsOther};
 ghost use Rattle.adlb_unit.specs.Limits.{stamp_limit};
 ghost use Rattle.server_core.specs.Failing.{finishing, with_finished};
 ghost use Rattle.server_core.specs.Out.{HasRoom, IsWithin, Out, event_letters, going_on, made, planned};

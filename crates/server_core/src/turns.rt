@@ -6,10 +6,10 @@ ghost use Rattle.std.specs.Option.{option_map};
 ghost use Rattle.adlb_unit.specs.Ring.{others};
 ghost use Rattle.work_queue.specs.Queue.{HasFree};
 ghost use Rattle.work_queue.specs.declared.placing.Placed.{Placed};
-ghost use Rattle.reserve_path.specs.Calls.{call_of, first_idle, granted, hints_next, is_idle_since, step_for, taker_of};
-ghost use Rattle.reserve_path.specs.Grants.{best_for, note_of};
-ghost use Rattle.reserve_path.specs.Parked.{IsAway, IsHere, IsOther, IsParked, entry_of, is_pending};
-ghost use Rattle.reserve_path.specs.declared.waits.Waiting.{Waiting};
+ghost use Rattle.server_components.specs.Calls.{call_of, first_idle, granted, hints_next, is_idle_since, step_for, taker_of};
+ghost use Rattle.server_components.specs.Grants.{best_for, note_of};
+ghost use Rattle.server_components.specs.Parked.{IsAway, IsHere, IsOther, IsParked, entry_of, is_pending};
+ghost use Rattle.server_components.specs.declared.waits.Waiting.{Waiting};
 ghost use Rattle.server_core.specs.inside.{parked_of};
 ghost use Rattle.server_core.specs.Waits.{asked, heard, looked, offered, over, released, sought, taken, unidle_first, unwished_next};
 ghost use Rattle.server_law.specs.Finding.{is_free_as};
@@ -17,7 +17,7 @@ ghost use Rattle.server_law.specs.State.{Kept, ServerModel, is_waiting};
 
 use crate::states::ServerState;
 use adlb_unit::{End, Rank, Server, Target, Types, UnitId, UnitNote, WorkType};
-use reserve_path::ReserveStep;
+use server_components::ReserveStep;
 
 impl ServerState {
     // The end by which calls of ranks are answered by now, if there is one.

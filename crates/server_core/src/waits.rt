@@ -3,8 +3,8 @@
 ghost use Rattle.std.specs.Prelude.{◌≡◌, ◌≤◌, ◌<◌, ◌+◌, ◌↔◌, ◌&&◌, ℕ, IsTrue, Some, take};
 ghost use Rattle.std.specs.List.{list_any};
 ghost use Rattle.adlb_unit.specs.Limits.{rank_limit};
-ghost use Rattle.reserve_path.specs.Parked.{entry_of, is_idle, is_of};
-ghost use Rattle.reserve_path.specs.declared.waits.Waiting.{Waiting};
+ghost use Rattle.server_components.specs.Parked.{entry_of, is_idle, is_of};
+ghost use Rattle.server_components.specs.declared.waits.Waiting.{Waiting};
 ghost use Rattle.server_core.specs.inside.{parked_of};
 ghost use Rattle.server_core.specs.Out.{HasPlaces, HasRoom, Out, with_letter};
 ghost use Rattle.server_law.specs.Acts.{askers, to_server};

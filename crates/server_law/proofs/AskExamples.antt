@@ -15,8 +15,8 @@ use Rattle.adlb_unit.specs.declared.units.Unit.{Unit}
 use Rattle.bag_ledger.specs.Runs.{note_of}
 use Rattle.bag_ledger.specs.declared.entries.Entry.{Entry}
 use Rattle.bag_ledger.specs.declared.entries.Entry.TheVariants as enters
-use Rattle.reserve_path.specs.declared.waits.Waiting.{Waiting}
-use Rattle.reserve_path.specs.declared.wishes.Wish.{Wish}
+use Rattle.server_components.specs.declared.waits.Waiting.{Waiting}
+use Rattle.server_components.specs.declared.wishes.Wish.{Wish}
 use Rattle.server_law.specs.Carried.{Served}
 use Rattle.server_law.specs.State.{ServerModel, awaiting, idle, start}
 use Rattle.server_law.proofs.Examples.{Said, accepts, grant, grants, heard, puts, rank, reserves, run_of, says, server, tells_to, unit}

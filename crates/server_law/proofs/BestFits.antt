@@ -17,9 +17,9 @@ use Rattle.work_queue.specs.Best.{best_from, best_of, offered, rated_id}
 use Rattle.work_queue.specs.Queue.{HasDistinctIds, id_of}
 use Rattle.work_queue.specs.declared.placing.Placed.{Placed}
 use Rattle.work_queue.specs.declared.rating.Rated.{Rated}
-use Rattle.reserve_path.specs.Grants.{unit_with}
+use Rattle.server_components.specs.Grants.{unit_with}
 use Rattle.server_law.specs.Finding.{best_for}
-use Rattle.reserve_path.specs.declared.wishes.Wish.{Wish}
+use Rattle.server_components.specs.declared.wishes.Wish.{Wish}
 use Rattle.server_law.specs.State.{Kept}
 use Rattle.server_law.specs.Sure.{IsFound, IsFreeFor}
 use Rattle.server_law.proofs.ByIds.{free_is_found, listed_is_found}

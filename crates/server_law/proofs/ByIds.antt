@@ -11,7 +11,7 @@ use Rattle.work_queue.proofs.Offers.{free_is}
 use Rattle.work_queue.proofs.Searched.{find_first}
 use Rattle.work_queue.specs.Queue.{HasDistinctIds, id_of}
 use Rattle.work_queue.specs.declared.placing.Placed.{Placed}
-use Rattle.reserve_path.specs.Grants.{unit_with}
+use Rattle.server_components.specs.Grants.{unit_with}
 use Rattle.server_law.specs.Finding.{is_free_as, is_pin, is_pinned_as}
 
 -- a unit that is in the list is the one that its id finds

@@ -17,18 +17,18 @@ use Rattle.adlb_unit.specs.declared.names.UnitId.{UnitId}
 use Rattle.adlb_unit.specs.declared.units.Unit.{Unit as Work}
 use Rattle.adlb_unit.proofs.Same.{same_unit_from}
 use Rattle.bag_ledger.proofs.Tests.{some_is}
-use Rattle.batch_store.specs.Store.{closed, fetched, is_due}
-use Rattle.batch_store.specs.declared.parts.Part.{Part}
+use Rattle.server_components.specs.Store.{closed, fetched, is_due}
+use Rattle.server_components.specs.declared.parts.Part.{Part}
 use Rattle.work_queue.specs.Best.{IsOffered}
 use Rattle.work_queue.specs.Queue.{HasNoUnit, Queue, id_of, pinned_by, with_pin, with_unit, without_common}
 use Rattle.work_queue.specs.declared.placing.Placed.{Placed}
 use Rattle.work_queue.proofs.Offers.{is_permitted}
-use Rattle.reserve_path.specs.Calls.{or_else}
-use Rattle.reserve_path.specs.Parked.{is_idle, is_of}
-use Rattle.reserve_path.specs.Rest.{HasNoneFor}
-use Rattle.reserve_path.specs.declared.waits.Waiting.{Waiting}
-use Rattle.reserve_path.specs.declared.wishes.Wish.{Wish}
-use Rattle.reserve_path.proofs.Resting.{each_not, none_granted_is, none_left, none_pinned, not_any}
+use Rattle.server_components.specs.Calls.{or_else}
+use Rattle.server_components.specs.Parked.{is_idle, is_of}
+use Rattle.server_components.specs.Rest.{HasNoneFor}
+use Rattle.server_components.specs.declared.waits.Waiting.{Waiting}
+use Rattle.server_components.specs.declared.wishes.Wish.{Wish}
+use Rattle.server_components.proofs.Resting.{each_not, none_granted_is, none_left, none_pinned, not_any}
 use Rattle.server_law.specs.Acts.{Act, Accepts, Answers, Around, Arrives, Asks_on, Closes, Fetches, Fetches_part, Gives, Grants, Grants_try}
 use Rattle.server_law.specs.Acts.{Heard, Is_hinted, Parks, Sends_unit, Wakes, comes, given_back, queue_after, takes}
 use Rattle.server_law.specs.Asks.{none_rule, wake, wake_at}

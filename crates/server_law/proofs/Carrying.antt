@@ -30,14 +30,14 @@ use Rattle.server_law.specs.Endings.{ends_event, tells_idle}
 use Rattle.server_law.specs.Finding.{Place, exceeds, has_asked, has_promise, is_free_as, is_pinned_as, place_in}
 use Rattle.server_law.specs.Hints.{expects_hint}
 use Rattle.server_law.specs.Plan.{Decider, Plan, decided, in_order, plan}
-use Rattle.put_path.specs.Pushes.{asks_room, has_sent}
-use Rattle.put_path.proofs.StandingPushes.{push_from}
+use Rattle.server_components.specs.Pushes.{asks_room, has_sent}
+use Rattle.server_components.proofs.StandingPushes.{push_from}
 use Rattle.server_law.specs.Presses.{presses}
 use Rattle.server_law.specs.Pushes.{acks, answer_query, expects_query, expects_unit, sends as sends_on}
 use Rattle.server_law.specs.Puts.{expects_put, is_taken, put_now, settles}
 use Rattle.server_law.specs.Reserves.{reserve_now}
-use Rattle.reserve_path.specs.Calls.{is_since}
-use Rattle.reserve_path.specs.declared.wishes.Wish.{Wish}
+use Rattle.server_components.specs.Calls.{is_since}
+use Rattle.server_components.specs.declared.wishes.Wish.{Wish}
 use Rattle.server_law.specs.State.{ServerModel, ring_at, runs, runs_at_home}
 use Rattle.server_law.specs.Step.{acts, at_event, rule, serve}
 use Rattle.server_law.specs.Waits.{asks_on, looks_again}

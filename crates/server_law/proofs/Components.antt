@@ -6,7 +6,7 @@ use Rattle.std.proofs.lemmas.Bool.{false_from_ne_true}
 use Rattle.std.proofs.lemmas.List.Folds.{find-append}
 use Rattle.adlb_unit.proofs.Same.{same_batch_from, same_batch_is}
 use Rattle.bag_ledger.proofs.Lookups.{find_changed, find_other}
-use Rattle.batch_store.specs.Store.{Store, part_in}
+use Rattle.server_components.specs.Store.{Store, part_in}
 use Rattle.adlb_unit.specs.Ids.{same_batch}
 use Rattle.adlb_unit.specs.declared.names.BatchId.{BatchId}
 use Rattle.adlb_unit.specs.declared.names.CommonRef.{CommonRef}

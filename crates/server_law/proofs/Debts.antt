@@ -10,7 +10,7 @@ use Rattle.adlb_unit.specs.declared.names.UnitId.{UnitId}
 use Rattle.adlb_unit.specs.declared.units.Unit.{Unit as Work}
 use Rattle.bag_ledger.proofs.Tests.{some_is}
 use Rattle.work_queue.specs.declared.placing.Placed.{Placed}
-use Rattle.reserve_path.specs.declared.wishes.Wish.{Wish}
+use Rattle.server_components.specs.declared.wishes.Wish.{Wish}
 use Rattle.server_law.specs.Acts.{Act, Acks, Arrives, Heard, Hints, does, takes}
 use Rattle.server_law.specs.Calm.{EventsPay}
 use Rattle.server_law.specs.Carried.{Served, all_done, done}

@@ -17,20 +17,20 @@ use Rattle.exhaust_ring.specs.declared.steps.RingStep.TheVariants.{Ended, Exhaus
 use Rattle.work_queue.specs.Queue.{Queue, id_of}
 use Rattle.work_queue.specs.declared.placing.Placed.{Placed}
 use Rattle.server_law.specs.Acts.{Act, Around, Finds_alone, Hints, Starts, Tells, check_alone, takes}
-use Rattle.reserve_path.specs.Parked.{is_idle, is_of}
+use Rattle.server_components.specs.Parked.{is_idle, is_of}
 use Rattle.server_law.specs.Carried.{all_done, done}
 use Rattle.server_law.specs.Endings.{checks, ends_event, finds_alone, is_noted, is_quiet, notice, notices, starts, tells_all, tells_idle}
 use Rattle.server_law.specs.Endings.{tells_one}
 use Rattle.server_law.specs.Finding.{Place, best_for, is_free_as, permits, place_in, taker}
 use Rattle.server_law.specs.Hints.{hint_all, hints_if, is_first_for, is_later_for}
 use Rattle.server_law.specs.Plan.{Decider, decided}
-use Rattle.put_path.specs.Pushes.{query_of}
-use Rattle.put_path.specs.declared.pushing.PushQuery.{PushQuery}
+use Rattle.server_components.specs.Pushes.{query_of}
+use Rattle.server_components.specs.declared.pushing.PushQuery.{PushQuery}
 use Rattle.server_law.specs.Presses.{presses, queries}
 use Rattle.server_law.specs.Pushes.{acks, acks_if}
 use Rattle.server_law.specs.Puts.{gives, settles, settles_as}
-use Rattle.reserve_path.specs.declared.waits.Waiting.{Waiting}
-use Rattle.reserve_path.specs.declared.wishes.Wish.{Wish}
+use Rattle.server_components.specs.declared.waits.Waiting.{Waiting}
+use Rattle.server_components.specs.declared.wishes.Wish.{Wish}
 use Rattle.server_law.specs.State.{Debt, ServerModel, idle, ring_at}
 use Rattle.server_law.specs.Sure.{AreHintsOf, AreSure, HasCause, IsFound, TakeNone}
 use Rattle.server_law.specs.Waits.{ask_at, ask_next, asks_on, look_again, look_at, looks_again}

@@ -36,7 +36,7 @@ use Rattle.bag_law.proofs.Facts.{sum_single}
 use Rattle.bag_law.proofs.Plain.{kept_is}
 use Rattle.server_law.specs.Agreement.{ServerAgrees, of_batch, part_at, pin_at, room_at, room_for}
 use Rattle.server_law.specs.Legal.{IsOpen, ServersStay, keeper}
-use Rattle.batch_store.specs.Store.{part_in}
+use Rattle.server_components.specs.Store.{part_in}
 use Rattle.server_law.specs.State.{ServerModel}
 use Rattle.server_law.proofs.Components.{holds_more, known_agrees, parts_agree, promises_agree, seen_kept, shared_agrees, units_agree}
 use Rattle.server_law.proofs.Lodging.{holds_beside, holds_passing}

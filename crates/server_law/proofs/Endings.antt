@@ -13,7 +13,7 @@ use Rattle.server_law.specs.Acts.{Act, ServerSaying, Starts, Tells, check_alone,
 use Rattle.server_law.specs.Carried.{Served, all_counted, all_done, carried, done, joined, sends, stamped}
 use Rattle.server_law.specs.Endings.{checks, ends_event, finds_alone, is_noted, is_quiet, notice, notices, starts, tells_all, tells_one}
 use Rattle.server_law.specs.Expected.{IsHome, Runs}
-use Rattle.reserve_path.specs.declared.waits.Waiting.{Waiting}
+use Rattle.server_components.specs.declared.waits.Waiting.{Waiting}
 use Rattle.server_law.specs.Plan.{decided}
 use Rattle.server_law.specs.State.{ServerModel, is_finished, ring_at}
 use Rattle.server_law.proofs.Carrying.{followed, followed_more, with_act}

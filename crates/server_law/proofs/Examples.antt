@@ -24,14 +24,14 @@ use Rattle.bag_ledger.specs.declared.entries.Entry.{Entry}
 use Rattle.bag_ledger.specs.declared.entries.Entry.TheVariants as enters
 use Rattle.bag_ledger.specs.Runs.{note_of}
 use Rattle.work_queue.specs.Queue.{with_unit}
-use Rattle.put_path.specs.Pushes.{asks_room}
+use Rattle.server_components.specs.Pushes.{asks_room}
 use Rattle.server_law.specs.Acts.{Act, Around, Checks_alone, Finds_alone, Notes_own, Tells}
 use Rattle.server_law.specs.Carried.{Served}
 use Rattle.server_law.specs.Endings.{ends_event, tells_all}
 use Rattle.server_law.specs.Finding.{taker}
 use Rattle.server_law.specs.Plan.{decided}
-use Rattle.reserve_path.specs.declared.waits.Waiting.{Waiting}
-use Rattle.reserve_path.specs.declared.wishes.Wish.{Wish}
+use Rattle.server_components.specs.declared.waits.Waiting.{Waiting}
+use Rattle.server_components.specs.declared.wishes.Wish.{Wish}
 use Rattle.server_law.specs.State.{Kept, ServerModel, awaiting, idle, start}
 use Rattle.server_law.specs.Step.{serve}
 

@@ -21,8 +21,8 @@ use Rattle.exhaust_ring.specs.Expected.{expects, is_running}
 use Rattle.exhaust_ring.specs.Ring.{Asker}
 use Rattle.exhaust_ring.proofs.Rows.{expects_is, expects_tested}
 use Rattle.work_queue.specs.declared.placing.Placed.{Placed}
-use Rattle.reserve_path.specs.Calls.{is_since}
-use Rattle.reserve_path.specs.declared.waits.Waiting.{Waiting}
+use Rattle.server_components.specs.Calls.{is_since}
+use Rattle.server_components.specs.declared.waits.Waiting.{Waiting}
 use Rattle.server_law.specs.Acts.{Act}
 use Rattle.server_law.specs.Asks.{expects_ask, grant_rule, none_rule, pass_at, pass_on, wake, wake_at}
 use Rattle.server_law.specs.Carried.{Served, carried}
@@ -33,16 +33,16 @@ use Rattle.server_law.specs.Fetches.{fetch}
 use Rattle.server_law.specs.Finding.{Place, has_asked, has_promise, is_free_as, is_pinned_as, place_in}
 use Rattle.server_law.specs.Hints.{expects_hint, hint_at, hint_rule}
 use Rattle.server_law.specs.Plan.{Plan, in_order, plan}
-use Rattle.put_path.specs.Pushes.{Asks, HasSent, Pushing, is_push_as, some_push}
-use Rattle.put_path.specs.declared.standing.StandingPush.{StandingPush}
-use Rattle.put_path.proofs.StandingPushes.{asks_says, sent_says}
+use Rattle.server_components.specs.Pushes.{Asks, HasSent, Pushing, is_push_as, some_push}
+use Rattle.server_components.specs.declared.standing.StandingPush.{StandingPush}
+use Rattle.server_components.proofs.StandingPushes.{asks_says, sent_says}
 use Rattle.server_law.specs.Pushes.{ack_at, expects_query, expects_unit, no_at, yes_at}
 use Rattle.server_law.specs.Puts.{expects_put}
 use Rattle.server_law.specs.State.{ServerModel, ring_at, runs, runs_at_home}
 use Rattle.server_law.specs.Step.{acts, at_event, rule, serve, server_rule}
 use Rattle.adlb_unit.specs.declared.names.BatchId.{BatchId}
-use Rattle.batch_store.specs.Store.{part_in}
-use Rattle.batch_store.specs.declared.parts.Part.{Part}
+use Rattle.server_components.specs.Store.{part_in}
+use Rattle.server_components.specs.declared.parts.Part.{Part}
 use Rattle.server_law.specs.Batches.{can_close, can_fetch, close, expects_keep, part_if, share}
 use Rattle.server_law.proofs.Places.{IsPlace, place_found, place_says}
 use Rattle.server_law.proofs.Tests.{Says, below_says, both_say, close_says, expects_ask_says, expects_hint_says, expects_put_says}

@@ -12,9 +12,9 @@ use Rattle.work_queue.proofs.Lists.{free_from_best}
 use Rattle.work_queue.proofs.Named.{find_listed}
 use Rattle.work_queue.proofs.Searched.{find_first}
 use Rattle.work_queue.proofs.Walks.{best_walk}
-use Rattle.reserve_path.specs.Grants.{unit_with}
+use Rattle.server_components.specs.Grants.{unit_with}
 use Rattle.server_law.specs.Finding.{best_for, is_free_as, is_pinned_as}
-use Rattle.reserve_path.specs.declared.wishes.Wish.{Wish}
+use Rattle.server_components.specs.declared.wishes.Wish.{Wish}
 use Rattle.server_law.specs.State.{Kept}
 use Rattle.server_law.proofs.Tests.{find_says, free_says, is_free_says, is_pinned_says, pinned_says, unit_says}
 

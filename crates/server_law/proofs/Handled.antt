@@ -19,9 +19,9 @@ use Rattle.work_queue.specs.declared.placing.Placed.{Placed}
 use Rattle.server_law.specs.Acts.{Act, Accepts, Closes, Ends_put, Ends_reserve, Grants, Heard, Hears_done, Hears_exhaust, Hints, Parks}
 use Rattle.server_law.specs.Acts.{Refuses, of_rank, takes}
 use Rattle.adlb_unit.specs.declared.names.BatchId.{BatchId}
-use Rattle.batch_store.specs.Store.{part_in}
-use Rattle.batch_store.specs.declared.parts.Part.{Part}
-use Rattle.reserve_path.specs.Calls.{is_since}
+use Rattle.server_components.specs.Store.{part_in}
+use Rattle.server_components.specs.declared.parts.Part.{Part}
+use Rattle.server_components.specs.Calls.{is_since}
 use Rattle.server_law.specs.Asks.{answer, expects_ask, pass_at, wake_at}
 use Rattle.server_law.specs.Batches.{can_close, can_fetch, close, expects_keep, keep, part_if, share}
 use Rattle.server_law.specs.Carried.{done}
@@ -35,7 +35,7 @@ use Rattle.server_law.specs.Presses.{presses}
 use Rattle.server_law.specs.Pushes.{expects_query, expects_unit}
 use Rattle.server_law.specs.Puts.{expects_put, is_over, is_taken, put, put_now, settles}
 use Rattle.server_law.specs.Reserves.{reserve}
-use Rattle.reserve_path.specs.declared.wishes.Wish.{Wish}
+use Rattle.server_components.specs.declared.wishes.Wish.{Wish}
 use Rattle.server_law.specs.State.{ServerModel, awaiting, ring_at, runs, runs_at_home}
 use Rattle.server_law.specs.Step.{rule, server_rule}
 use Rattle.server_law.specs.Sure.{ActsHandle, HandledBy, IsHintOf, SitsIn, Sure}

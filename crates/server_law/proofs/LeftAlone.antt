@@ -15,11 +15,11 @@ use Rattle.adlb_unit.specs.declared.names.Server.{Server}
 use Rattle.bag_ledger.specs.declared.entries.Entry.{Entry}
 use Rattle.bag_ledger.specs.declared.entries.Entry.TheVariants as enters
 use Rattle.bag_ledger.proofs.Tests.{some_is}
-use Rattle.batch_store.specs.Store.{closed, fetched, is_due}
-use Rattle.batch_store.specs.declared.parts.Part.{Part}
-use Rattle.reserve_path.specs.Parked.{is_of}
-use Rattle.reserve_path.specs.declared.waits.Waiting.{Waiting}
-use Rattle.reserve_path.specs.declared.wishes.Wish.{Wish}
+use Rattle.server_components.specs.Store.{closed, fetched, is_due}
+use Rattle.server_components.specs.declared.parts.Part.{Part}
+use Rattle.server_components.specs.Parked.{is_of}
+use Rattle.server_components.specs.declared.waits.Waiting.{Waiting}
+use Rattle.server_components.specs.declared.wishes.Wish.{Wish}
 use Rattle.server_law.specs.Acts.{Act, Accepts, Answers, Around, Arrives, Asks_on, Closes, Counts, Ends_keep, Ends_put, Ends_reserve}
 use Rattle.server_law.specs.Acts.{Ends_try, Fetches, Fetches_part, Finds, Finds_alone, Gives, Grants, Grants_try, Heard, Is_hinted, Keeps}
 use Rattle.server_law.specs.Acts.{Looks, Passes_on, Promises, Refuses, Refuses_part, Sends_unit, Tells, Wakes, Withdraws, comes, entries}

@@ -25,7 +25,7 @@ use Rattle.work_queue.proofs.Named.{find_listed, find_nothing}
 use Rattle.work_queue.specs.Queue.{HasDistinctIds, has_other_id, id_of, pinned_by}
 use Rattle.work_queue.specs.declared.placing.Placed.{Placed}
 use Rattle.server_law.specs.Agreement.{HoldsUnits, UnitWeight, of_id, pin_at, pinned_weight, slot_of, weight_at, weight_in}
-use Rattle.reserve_path.specs.Grants.{unit_with}
+use Rattle.server_components.specs.Grants.{unit_with}
 
 -- What a unit in this place is at the server.
 

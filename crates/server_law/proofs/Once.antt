@@ -13,8 +13,8 @@ use Rattle.adlb_unit.specs.declared.letters.Letter.{Letter}
 use Rattle.adlb_unit.specs.declared.messages.Message.{Message}
 use Rattle.adlb_unit.specs.declared.names.Rank.{Rank}
 use Rattle.bag_ledger.proofs.Tests.{some_is}
-use Rattle.reserve_path.specs.Parked.{is_of}
-use Rattle.reserve_path.specs.declared.waits.Waiting.{Waiting}
+use Rattle.server_components.specs.Parked.{is_of}
+use Rattle.server_components.specs.declared.waits.Waiting.{Waiting}
 use Rattle.server_law.specs.Acts.{Act, Asks_on, Parks, comes, goes, takes, waiting_after}
 use Rattle.server_law.specs.Calm.{EventsKeepOnce, WaitOnce}
 use Rattle.server_law.specs.Carried.{Served, all_done, carried, done}

@@ -32,12 +32,12 @@ use Rattle.server_law.specs.Acts.{Promises, Refuses, Refuses_part, Sends_unit, S
 use Rattle.adlb_unit.specs.declared.names.CommonRef.{CommonRef}
 use Rattle.server_law.specs.Agreement.{ServerAgrees, of_batch, pinned_weight, weight_at}
 use Rattle.server_law.specs.Carried.{done}
-use Rattle.reserve_path.specs.Grants.{unit_with}
+use Rattle.server_components.specs.Grants.{unit_with}
 use Rattle.server_law.specs.Finding.{best_for, is_free_as}
 use Rattle.server_law.specs.Legal.{ActsAreLegal, AsksFor, Does, IsOpen, Offers, TriesFor}
 use Rattle.server_law.specs.Moving.{IsPromisedAt}
 use Rattle.server_law.specs.Puts.{is_over}
-use Rattle.reserve_path.specs.declared.wishes.Wish.{Wish}
+use Rattle.server_components.specs.declared.wishes.Wish.{Wish}
 use Rattle.server_law.specs.State.{ServerModel, runs_at_home}
 use Rattle.server_law.specs.Sure.{HasCause}
 use Rattle.server_law.proofs.BestFits.{IsFit, best_is_fit, given_fits}

@@ -20,9 +20,9 @@ use Rattle.bag_ledger.specs.declared.states.RankState.{RankState}
 use Rattle.bag_ledger.proofs.Lookups.{find_changed, sum_changed}
 use Rattle.bag_ledger.proofs.Tests.{same_number, same_server_is, some_is}
 use Rattle.bag_law.proofs.Plain.{kept_is}
-use Rattle.batch_store.specs.Store.{Store, changed, closed, fetched, fresh, is_due, kept, part_in, with_fresh}
-use Rattle.batch_store.proofs.Lookups.{changed_here, in_changed, in_inserted}
-use Rattle.batch_store.specs.declared.parts.Part.{Part}
+use Rattle.server_components.specs.Store.{Store, changed, closed, fetched, fresh, is_due, kept, part_in, with_fresh}
+use Rattle.server_components.proofs.Lookups.{changed_here, in_changed, in_inserted}
+use Rattle.server_components.specs.declared.parts.Part.{Part}
 use Rattle.work_queue.specs.Queue.{Queue, charge_of, without_common}
 use Rattle.server_law.specs.Acts.{Closes, Fetches_part, Keeps, Refuses_part, batch_of, entries, frees, given_back}
 use Rattle.server_law.specs.Agreement.{ServerAgrees, of_batch, part_at, part_seen}

@@ -7,10 +7,10 @@ use Rattle.std.proofs.lemmas.Bool.{and_left, and_parts}
 use Rattle.std.proofs.lemmas.List.Elements.{All-cons, All-head, All-nil, All-tail, All-weaker}
 use Rattle.adlb_unit.specs.declared.names.Server.{Server}
 use Rattle.adlb_unit.specs.declared.units.Unit.{Unit}
-use Rattle.reserve_path.specs.Calls.{or_else}
-use Rattle.reserve_path.specs.Parked.{is_idle}
+use Rattle.server_components.specs.Calls.{or_else}
+use Rattle.server_components.specs.Parked.{is_idle}
 use Rattle.server_law.specs.Finding.{Place, behind_one, is_idle_first, is_idle_for, permits, place_in, taker}
-use Rattle.reserve_path.specs.declared.waits.Waiting.{Waiting}
+use Rattle.server_components.specs.declared.waits.Waiting.{Waiting}
 use Rattle.server_law.specs.State.{idle}
 
 -- with those round about

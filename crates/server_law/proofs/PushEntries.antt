@@ -19,7 +19,7 @@ use Rattle.bag_law.specs.Sound.{PromisesAreSingle}
 use Rattle.work_queue.specs.Queue.{Promise, charge_of, has_other_id, is_for_other, promised}
 use Rattle.work_queue.specs.declared.placing.Placed.{Placed}
 use Rattle.work_queue.proofs.Grown.{once_left, once_more}
-use Rattle.reserve_path.specs.Grants.{unit_with}
+use Rattle.server_components.specs.Grants.{unit_with}
 use Rattle.server_law.specs.Acts.{Arrives, Promises, Withdraws, entries}
 use Rattle.server_law.specs.Agreement.{ServerAgrees, room_for}
 use Rattle.server_law.specs.Carried.{done}

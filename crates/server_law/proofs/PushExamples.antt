@@ -11,8 +11,8 @@ use Rattle.adlb_unit.specs.declared.units.Unit.{Unit}
 use Rattle.bag_ledger.specs.Runs.{note_of}
 use Rattle.bag_ledger.specs.declared.entries.Entry.{Entry}
 use Rattle.bag_ledger.specs.declared.entries.Entry.TheVariants as enters
-use Rattle.put_path.specs.Pushes.{asks_room, has_sent}
-use Rattle.put_path.specs.declared.standing.StandingPush.{StandingPush}
+use Rattle.server_components.specs.Pushes.{asks_room, has_sent}
+use Rattle.server_components.specs.declared.standing.StandingPush.{StandingPush}
 use Rattle.work_queue.specs.Queue.{Promise, charge_of}
 use Rattle.server_law.specs.Carried.{Served}
 use Rattle.server_law.specs.State.{ServerModel, start}

@@ -7,9 +7,9 @@ use Rattle.adlb_unit.specs.declared.names.Server.{Server}
 use Rattle.adlb_unit.specs.declared.names.UnitId.{UnitId}
 use Rattle.adlb_unit.specs.declared.units.Unit.{Unit}
 use Rattle.bag_law.proofs.Turn.{found_passes}
-use Rattle.put_path.specs.Pushes.{is_push_as}
-use Rattle.put_path.specs.declared.standing.StandingPush.{StandingPush}
-use Rattle.put_path.proofs.StandingPushes.{push_is}
+use Rattle.server_components.specs.Pushes.{is_push_as}
+use Rattle.server_components.specs.declared.standing.StandingPush.{StandingPush}
+use Rattle.server_components.proofs.StandingPushes.{push_is}
 use Rattle.work_queue.specs.Queue.{id_of}
 use Rattle.work_queue.specs.declared.placing.Placed.{Placed}
 use Rattle.server_law.specs.Acts.{Arrives, Ends_push, Sends_unit, Stops_push, Withdraws}

@@ -13,7 +13,7 @@ use Rattle.server_law.specs.Acts.{Finds_alone, Parks}
 use Rattle.server_law.specs.Agreement.{ServerAgrees}
 use Rattle.server_law.specs.Carried.{done}
 use Rattle.server_law.specs.Rest.{RestsAt, WaitsFor}
-use Rattle.reserve_path.specs.declared.wishes.Wish.{Wish}
+use Rattle.server_components.specs.declared.wishes.Wish.{Wish}
 use Rattle.server_law.specs.State.{ServerModel, idle, start}
 use Rattle.server_law.proofs.OneServer.{one_has_all}
 use Rattle.server_law.proofs.OwnEntries.{acts_are_legal}

@@ -28,7 +28,7 @@ use Rattle.server_law.specs.Agreement.{HoldsUnits, UnitWeight, weight_at, weight
 use Rattle.server_law.specs.Endings.{fits}
 use Rattle.server_law.specs.Finding.{best_for}
 use Rattle.server_law.specs.Rest.{IsHereOrSpent, IsKeptAt, RestIsSettled, RestsAt, WaitsFor}
-use Rattle.reserve_path.specs.declared.wishes.Wish.{Wish}
+use Rattle.server_components.specs.declared.wishes.Wish.{Wish}
 use Rattle.server_law.specs.State.{Kept, ServerModel}
 use Rattle.server_law.proofs.BestFits.{nothing_fits}
 

@@ -14,7 +14,7 @@ use Rattle.server_law.specs.Acts.{Accepts, Arrives, Ends_put, Refuses}
 use Rattle.server_law.specs.Carried.{done}
 use Rattle.server_law.specs.Finding.{is_free_as, taker}
 use Rattle.server_law.specs.Hints.{hint_all}
-use Rattle.put_path.specs.Pushes.{is_pressed, query_to}
+use Rattle.server_components.specs.Pushes.{is_pressed, query_to}
 use Rattle.work_queue.specs.Push.{first_to_push_of}
 use Rattle.server_law.specs.Presses.{presses, queries}
 use Rattle.server_law.specs.Puts.{expects_put, gives, settles, settles_as}

@@ -15,8 +15,8 @@ use Rattle.exhaust_ring.specs.Visits.{Outcome, first_token, is_verdict, judged, 
 use Rattle.exhaust_ring.specs.declared.steps.RingStep.TheVariants.{Ended, Exhausted, Fail, Shutdown}
 use Rattle.work_queue.specs.Best.{best_of}
 use Rattle.work_queue.proofs.Walks.{best_walk, no_fit}
-use Rattle.reserve_path.specs.Calls.{wants}
-use Rattle.reserve_path.specs.declared.waits.Waiting.{Waiting}
+use Rattle.server_components.specs.Calls.{wants}
+use Rattle.server_components.specs.declared.waits.Waiting.{Waiting}
 use Rattle.server_law.specs.Acts.{askers, check_alone, fit_among}
 use Rattle.server_law.specs.Endings.{fits, is_quiet}
 use Rattle.server_law.specs.State.{Kept, ServerModel, ring_at}

@@ -27,22 +27,22 @@ use Rattle.exhaust_ring.specs.Ring.{RingModel}
 use Rattle.work_queue.specs.Queue.{HasFree, HasNoPromise, HasNoUnit, HasPinned, HasPromise, HasRoom, Promise, id_of}
 use Rattle.work_queue.specs.declared.placing.Placed.{Placed}
 use Rattle.adlb_unit.specs.declared.names.BatchId.{BatchId}
-use Rattle.batch_store.specs.Store.{CanClose, CanFetch, Keeps, part_in}
-use Rattle.batch_store.specs.declared.parts.Part.{Part}
-use Rattle.reserve_path.specs.Calls.{is_since}
+use Rattle.server_components.specs.Store.{CanClose, CanFetch, Keeps, part_in}
+use Rattle.server_components.specs.declared.parts.Part.{Part}
+use Rattle.server_components.specs.Calls.{is_since}
 use Rattle.server_law.specs.Acts.{batch_of}
 use Rattle.server_law.specs.Asks.{expects_ask}
 use Rattle.server_law.specs.Batches.{can_close, can_fetch, expects_keep, is_fewer, part_if}
 use Rattle.server_law.specs.Endings.{rests}
 use Rattle.server_law.specs.Expected.{IsHome, IsNew, IsQuiet, IsUnanswered, Runs, WaitsIdle}
-use Rattle.reserve_path.specs.Parked.{is_idle}
+use Rattle.server_components.specs.Parked.{is_idle}
 use Rattle.server_law.specs.Finding.{has_asked, has_promise, has_unit, is_asked_at, is_free_as, is_pin, is_pinned_as}
 use Rattle.server_law.specs.Hints.{expects_hint}
 use Rattle.server_law.specs.Pushes.{expects_query, expects_unit, is_room_for}
 use Rattle.server_law.specs.Puts.{expects_put}
 use Rattle.server_law.specs.Quiet.{QuietIsTested}
-use Rattle.reserve_path.specs.Parked.{is_of}
-use Rattle.reserve_path.specs.declared.waits.Waiting.{Waiting}
+use Rattle.server_components.specs.Parked.{is_of}
+use Rattle.server_components.specs.declared.waits.Waiting.{Waiting}
 use Rattle.server_law.specs.State.{Kept, ServerModel, is_finished, is_home, is_waiting, runs, runs_at_home}
 
 -- Tests in general.

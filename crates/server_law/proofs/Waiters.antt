@@ -4,7 +4,7 @@ use Rattle.std.proofs.Common.{Option, None, Some, refl, sym, ap, subst, All, Any
 use Rattle.std.specs.Prelude.{count_by}
 use Rattle.std.proofs.lemmas.List.Elements.{All-cons, All-head, All-nil, All-tail}
 use Rattle.std.proofs.lemmas.List.Sums.{sum_by-append, sum_by-cons}
-use Rattle.reserve_path.specs.declared.waits.Waiting.{Waiting}
+use Rattle.server_components.specs.declared.waits.Waiting.{Waiting}
 use Rattle.server_law.specs.Acts.{Act, Around, ServerSaying, around, comes, does, goes, says, waiting_after, waiting_with}
 use Rattle.server_law.specs.Carried.{all_counted, all_done, counted, done}
 use Rattle.server_law.specs.State.{ServerModel}

@@ -27,14 +27,14 @@ use Rattle.work_queue.specs.Counts.{counts_of}
 use Rattle.work_queue.specs.Fits.{first_fit}
 use Rattle.work_queue.specs.Queue.{Queue, charge_of, with_arrival, with_common, with_pin, with_promise, with_unit, without, without_common}
 use Rattle.work_queue.specs.Queue.{without_promise}
-use Rattle.batch_store.specs.Store.{Store, changed, closed, fetched, is_due, with_fresh}
-use Rattle.batch_store.specs.declared.parts.Part.{Part}
-use Rattle.reserve_path.specs.Calls.{wants, with_server}
-use Rattle.reserve_path.specs.Parked.{is_by}
-use Rattle.reserve_path.specs.declared.waits.Waiting.{Waiting}
-use Rattle.reserve_path.specs.declared.wishes.Wish.{Wish}
-use Rattle.put_path.specs.Pushes.{asks_room, has_sent, one_more}
-use Rattle.put_path.specs.declared.standing.StandingPush.{StandingPush}
+use Rattle.server_components.specs.Store.{Store, changed, closed, fetched, is_due, with_fresh}
+use Rattle.server_components.specs.declared.parts.Part.{Part}
+use Rattle.server_components.specs.Calls.{wants, with_server}
+use Rattle.server_components.specs.Parked.{is_by}
+use Rattle.server_components.specs.declared.waits.Waiting.{Waiting}
+use Rattle.server_components.specs.declared.wishes.Wish.{Wish}
+use Rattle.server_components.specs.Pushes.{asks_room, has_sent, one_more}
+use Rattle.server_components.specs.declared.standing.StandingPush.{StandingPush}
 use Rattle.server_law.specs.State.{Debt, Kept, ServerModel, awaiting, debt, idle, ring_at}
 
 -- a message to an actor

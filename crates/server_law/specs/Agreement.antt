@@ -17,9 +17,9 @@ use Rattle.bag_ledger.specs.declared.states.UnitPlace.{UnitPlace}
 use Rattle.bag_ledger.specs.declared.states.UnitPlace.TheVariants.{Free, Travelling, Pinned, Spent}
 use Rattle.work_queue.specs.Queue.{HasDistinctIds, HasDistinctPromises, Promise, Queue, promised}
 use Rattle.work_queue.specs.declared.placing.Placed.{Placed}
-use Rattle.batch_store.specs.Store.{Store, part_in}
-use Rattle.batch_store.specs.declared.parts.Part.{Part as PartKept}
-use Rattle.reserve_path.specs.Grants.{unit_with}
+use Rattle.server_components.specs.Store.{Store, part_in}
+use Rattle.server_components.specs.declared.parts.Part.{Part as PartKept}
+use Rattle.server_components.specs.Grants.{unit_with}
 use Rattle.server_law.specs.State.{ServerModel, start}
 
 -- the pin of a unit in this place, where it is at the server

@@ -5,8 +5,8 @@ use Rattle.adlb_unit.specs.Limits.{body_limit}
 use Rattle.adlb_unit.specs.declared.names.BatchId.{BatchId}
 use Rattle.adlb_unit.specs.declared.names.Rank.{Rank}
 use Rattle.adlb_unit.specs.declared.notes.End.TheVariants as ends_by
-use Rattle.batch_store.specs.Store.{part_in}
-use Rattle.batch_store.specs.declared.parts.Part.{Part}
+use Rattle.server_components.specs.Store.{part_in}
+use Rattle.server_components.specs.declared.parts.Part.{Part}
 use Rattle.server_law.specs.Acts.{Act, Closes, Ends_keep, Fetches_part, Keeps, Refuses_part, batch_of}
 use Rattle.server_law.specs.Finding.{exceeds}
 use Rattle.server_law.specs.Plan.{Plan, plan}

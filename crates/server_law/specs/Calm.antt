@@ -11,10 +11,10 @@ use Rattle.adlb_unit.specs.declared.names.Rank.{Rank}
 use Rattle.adlb_unit.specs.declared.names.Server.{Server}
 use Rattle.bag_ledger.specs.declared.entries.Entry.{Entry}
 use Rattle.bag_ledger.specs.declared.entries.Entry.TheVariants as enters
-use Rattle.reserve_path.specs.Parked.{is_of}
-use Rattle.reserve_path.specs.Rest.{HasNoneFor}
-use Rattle.reserve_path.specs.declared.waits.Waiting.{Waiting}
-use Rattle.reserve_path.specs.declared.wishes.Wish.{Wish}
+use Rattle.server_components.specs.Parked.{is_of}
+use Rattle.server_components.specs.Rest.{HasNoneFor}
+use Rattle.server_components.specs.declared.waits.Waiting.{Waiting}
+use Rattle.server_components.specs.declared.wishes.Wish.{Wish}
 use Rattle.server_law.specs.Carried.{Served}
 use Rattle.server_law.specs.Expected.{IsHome}
 use Rattle.server_law.specs.State.{ServerModel, start}

@@ -10,8 +10,8 @@ use Rattle.adlb_unit.specs.declared.notes.End.TheVariants as ends_by
 use Rattle.exhaust_ring.specs.Ring.{may_start}
 use Rattle.exhaust_ring.specs.declared.steps.RingStep.{RingStep}
 use Rattle.exhaust_ring.specs.declared.steps.RingStep.TheVariants.{Exhausted, Shutdown}
-use Rattle.reserve_path.specs.Parked.{is_idle, is_of}
-use Rattle.reserve_path.specs.declared.waits.Waiting.{Waiting}
+use Rattle.server_components.specs.Parked.{is_idle, is_of}
+use Rattle.server_components.specs.declared.waits.Waiting.{Waiting}
 use Rattle.server_law.specs.Acts.{Act, Around, Checks_alone, Finds_alone, Notes_own, Notices, Shuts_alone, Starts, Tells, check_alone}
 use Rattle.server_law.specs.Finding.{best_for}
 use Rattle.server_law.specs.Plan.{Decider}

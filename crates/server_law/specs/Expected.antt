@@ -11,9 +11,9 @@ use Rattle.adlb_unit.specs.declared.names.Rank.{Rank}
 use Rattle.adlb_unit.specs.declared.names.Server.{Server}
 use Rattle.adlb_unit.specs.declared.units.Unit.{Unit}
 use Rattle.work_queue.specs.Queue.{HasNoPromise, HasNoUnit, HasPinned, HasPromise, HasRoom}
-use Rattle.batch_store.specs.Store.{CanClose, CanFetch, Keeps, part_in}
-use Rattle.reserve_path.specs.declared.waits.Waiting.{Waiting}
-use Rattle.put_path.specs.Pushes.{Asks, HasSent}
+use Rattle.server_components.specs.Store.{CanClose, CanFetch, Keeps, part_in}
+use Rattle.server_components.specs.declared.waits.Waiting.{Waiting}
+use Rattle.server_components.specs.Pushes.{Asks, HasSent}
 use Rattle.exhaust_ring.specs.Expected.{Expects, IsRunning}
 use Rattle.server_law.specs.Acts.{batch_of}
 use Rattle.server_law.specs.State.{ServerModel, is_finished, ring_at}

@@ -9,11 +9,11 @@ use Rattle.adlb_unit.specs.declared.units.Unit.{Unit}
 use Rattle.work_queue.specs.Queue.{Promise, Queue, charge_of, id_of}
 use Rattle.work_queue.specs.declared.placing.Placed.{Placed}
 use Rattle.server_law.specs.Acts.{Around}
-use Rattle.reserve_path.specs.Calls.{is_since, is_soft_for, or_else, suits}
-use Rattle.reserve_path.specs.Grants.{best_for as best_at}
-use Rattle.reserve_path.specs.Parked.{is_idle}
-use Rattle.reserve_path.specs.declared.waits.Waiting.{Waiting}
-use Rattle.reserve_path.specs.declared.wishes.Wish.{Wish}
+use Rattle.server_components.specs.Calls.{is_since, is_soft_for, or_else, suits}
+use Rattle.server_components.specs.Grants.{best_for as best_at}
+use Rattle.server_components.specs.Parked.{is_idle}
+use Rattle.server_components.specs.declared.waits.Waiting.{Waiting}
+use Rattle.server_components.specs.declared.wishes.Wish.{Wish}
 use Rattle.server_law.specs.State.{Kept}
 
 -- Units.

@@ -3,8 +3,8 @@ use Rattle.std.specs.Prelude.{ℕ, nat_lt, Bool, ◌&&◌, not, List, [], ◌∷
 use Rattle.adlb_unit.specs.declared.names.Rank.{Rank}
 use Rattle.adlb_unit.specs.declared.names.Server.{Server}
 use Rattle.adlb_unit.specs.declared.units.Unit.{Unit}
-use Rattle.reserve_path.specs.Calls.{is_since, is_soft_for}
-use Rattle.reserve_path.specs.declared.wishes.Wish.{Wish}
+use Rattle.server_components.specs.Calls.{is_since, is_soft_for}
+use Rattle.server_components.specs.declared.wishes.Wish.{Wish}
 use Rattle.server_law.specs.Acts.{Act, Drops_hint, Hints, Is_hinted}
 use Rattle.server_law.specs.Finding.{Place, permits, place_in}
 use Rattle.server_law.specs.Plan.{Plan, plan}

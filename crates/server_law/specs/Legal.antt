@@ -18,7 +18,7 @@ use Rattle.bag_ledger.specs.declared.states.Status.{Status}
 use Rattle.bag_ledger.specs.declared.states.Status.TheVariants as is_at
 use Rattle.bag_ledger.specs.declared.states.UnitPlace.TheVariants.{Travelling}
 use Rattle.bag_law.specs.Sound.{IsSoundBag, PromisesAreSingle}
-use Rattle.reserve_path.specs.declared.wishes.Wish.{Wish}
+use Rattle.server_components.specs.declared.wishes.Wish.{Wish}
 use Rattle.server_law.specs.Acts.{Accepts, Act, Answers, Arrives, Closes, Counts, Ends_keep, Ends_put, Ends_reserve, Ends_try, Fetches}
 use Rattle.server_law.specs.Acts.{Fetches_part, Finds, Finds_alone, Gives, Grants, Grants_try, Hears_done, Hears_exhaust, Keeps, Looks}
 use Rattle.server_law.specs.Acts.{Promises, Refuses, Refuses_part, Sends_unit, Tells, Withdraws, batch_of, entries}

@@ -1,7 +1,7 @@
 -- The rule of Try.
 use Rattle.std.specs.Prelude.{Bool, true, false, [], Option, None, Some}
 use Rattle.adlb_unit.specs.declared.notes.End.TheVariants as ends_by
-use Rattle.reserve_path.specs.declared.wishes.Wish.{Wish}
+use Rattle.server_components.specs.declared.wishes.Wish.{Wish}
 use Rattle.work_queue.specs.declared.placing.Placed.{Placed}
 use Rattle.server_law.specs.Acts.{Act, Ends_try, Grants_try, Looks}
 use Rattle.server_law.specs.Finding.{best_for}

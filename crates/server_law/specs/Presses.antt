@@ -1,7 +1,7 @@
 -- A push begins, after a put that was accepted.
 use Rattle.std.specs.Prelude.{Bool, true, false, List, [], ◌∷◌, Option, None, Some}
-use Rattle.put_path.specs.Pushes.{query_of}
-use Rattle.put_path.specs.declared.pushing.PushQuery.{PushQuery}
+use Rattle.server_components.specs.Pushes.{query_of}
+use Rattle.server_components.specs.declared.pushing.PushQuery.{PushQuery}
 use Rattle.server_law.specs.Acts.{Act, Queries}
 use Rattle.server_law.specs.Plan.{Decider}
 

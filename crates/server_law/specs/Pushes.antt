@@ -6,8 +6,8 @@ use Rattle.adlb_unit.specs.Ids.{same_unit}
 use Rattle.adlb_unit.specs.declared.names.Server.{Server}
 use Rattle.adlb_unit.specs.declared.names.UnitId.{UnitId}
 use Rattle.adlb_unit.specs.declared.units.Unit.{Unit}
-use Rattle.put_path.specs.Pushes.{is_push_as}
-use Rattle.put_path.specs.declared.standing.StandingPush.{StandingPush}
+use Rattle.server_components.specs.Pushes.{is_push_as}
+use Rattle.server_components.specs.declared.standing.StandingPush.{StandingPush}
 use Rattle.work_queue.specs.Queue.{Promise}
 use Rattle.work_queue.specs.declared.placing.Placed.{Placed}
 use Rattle.server_law.specs.Acts.{Act, Acks, Arrives, Cancels, Ends_push, Promises, Refuses_push, Sends_unit, Stops_push, Withdraws}

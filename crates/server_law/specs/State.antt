@@ -8,12 +8,12 @@ use Rattle.adlb_unit.specs.declared.names.Server.{Server}
 use Rattle.adlb_unit.specs.declared.names.UnitId.{UnitId}
 use Rattle.adlb_unit.specs.declared.notes.Trouble.{Trouble}
 use Rattle.work_queue.specs.Queue.{Queue}
-use Rattle.batch_store.specs.Store.{Store}
+use Rattle.server_components.specs.Store.{Store}
 use Rattle.exhaust_ring.specs.Ring.{Ring, RingModel, no_check}
-use Rattle.put_path.specs.Pushes.{Pushing}
-use Rattle.reserve_path.specs.Parked.{Parked, is_of}
-use Rattle.reserve_path.specs.declared.waits.Waiting.{Waiting}
-use Rattle.reserve_path.specs.declared.wishes.Wish.{Wish}
+use Rattle.server_components.specs.Pushes.{Pushing}
+use Rattle.server_components.specs.Parked.{Parked, is_of}
+use Rattle.server_components.specs.declared.waits.Waiting.{Waiting}
+use Rattle.server_components.specs.declared.wishes.Wish.{Wish}
 
 -- a rank that waits, for which no server that was asked is unanswered; and one for which this server is
 abbrev pub idle : Wish → List Server → Waiting

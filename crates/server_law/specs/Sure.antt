@@ -14,21 +14,21 @@ use Rattle.exhaust_ring.specs.Expected.{HasComeBack, IsBefore, IsRunning, IsToJu
 use Rattle.exhaust_ring.specs.Ring.{MayStart}
 use Rattle.exhaust_ring.specs.Tests.{first_failing, passes}
 use Rattle.work_queue.specs.declared.placing.Placed.{Placed}
-use Rattle.reserve_path.specs.declared.waits.Waiting.{Waiting}
-use Rattle.reserve_path.specs.declared.wishes.Wish.{Wish}
+use Rattle.server_components.specs.declared.waits.Waiting.{Waiting}
+use Rattle.server_components.specs.declared.wishes.Wish.{Wish}
 use Rattle.server_law.specs.Acts.{Accepts, Acks, Act, Answers, Around, Arrives, Asks_on, Cancels, Closes, Checks_alone, Counts, Declines}
 use Rattle.server_law.specs.Acts.{Drops_hint, Ends_keep, Ends_push, Ends_put, Ends_reserve, Ends_try, Fails, Fetches, Fetches_part, Finds}
 use Rattle.server_law.specs.Acts.{Finds_alone, Gives, Gives_up, Grants, Grants_try, Hears_done, Hears_exhaust, Hears_failed, Hears_shutdown}
 use Rattle.server_law.specs.Acts.{Hints, Is_hinted, Keeps, Looks, Marks, Notes_finish, Notes_own, Notices, Parks, Passes, Passes_on}
 use Rattle.server_law.specs.Acts.{Promises, Queries, Refuses, Refuses_part, Refuses_push, Sends_unit, Shuts, Shuts_alone, Starts}
 use Rattle.server_law.specs.Acts.{Stops_push, Tells, Wakes, Wants, Withdraws, around, fit_among, goes, takes}
-use Rattle.batch_store.specs.Store.{part_in}
+use Rattle.server_components.specs.Store.{part_in}
 use Rattle.server_law.specs.Asks.{expects_ask}
 use Rattle.server_law.specs.Batches.{can_close, can_fetch, expects_keep}
 use Rattle.server_law.specs.Carried.{done}
 use Rattle.server_law.specs.Endings.{fits, is_quiet}
 use Rattle.server_law.specs.Finding.{best_for, exceeds, has_promise, is_free_as, is_pinned_as, permits}
-use Rattle.put_path.specs.Pushes.{asks_room, has_sent, query_of}
+use Rattle.server_components.specs.Pushes.{asks_room, has_sent, query_of}
 use Rattle.server_law.specs.Pushes.{expects_query, expects_unit}
 use Rattle.server_law.specs.Puts.{expects_put, is_over}
 use Rattle.server_law.specs.State.{Kept, ServerModel, debt, ring_at, runs, runs_at_home}

@@ -3,8 +3,8 @@ use Rattle.std.specs.Prelude.{Bool, true, false, ◌&&◌, List, [], ◌∷◌, 
 use Rattle.adlb_unit.specs.declared.names.Rank.{Rank}
 use Rattle.adlb_unit.specs.declared.names.Server.{Server}
 use Rattle.adlb_unit.specs.declared.notes.End.TheVariants as ends_by
-use Rattle.reserve_path.specs.Parked.{is_idle, is_of}
-use Rattle.reserve_path.specs.declared.wishes.Wish.{Wish}
+use Rattle.server_components.specs.Parked.{is_idle, is_of}
+use Rattle.server_components.specs.declared.wishes.Wish.{Wish}
 use Rattle.work_queue.specs.declared.placing.Placed.{Placed}
 use Rattle.server_law.specs.Acts.{Act, Around, Asks_on, Gives, Tells}
 use Rattle.server_law.specs.Finding.{Place, best_for, place_in}

@@ -18,7 +18,7 @@ use rank_client::{Adlb, EndFault, PutFault};
 use std::alloc::Global;
 use std::sync::Wait;
 use std::test::Fail;
-use thread_client::{ActorFault, LinkEnd, ThreadedLink};
+use thread_actors::{ActorFault, LinkEnd, ThreadedLink};
 
 type Link<'a, R, M> = ThreadedLink<R, LentGate<'a, R>, M>;
 

@@ -1,6 +1,6 @@
 //! Ranks and servers in threads, by example, and journals and their merge; and those in which an actor fails.
 //!
-//! It holds tests alone, of `rank_mail`, `actor_desk`, `thread_client`, `thread_server` and `adlb_threads`. They show
+//! It holds tests alone, of `rank_mail`, `actor_desk`, `thread_actors` and `adlb_threads`. They show
 //! that letters arrive in order, and what a desk enters and sends. A rank's calls are told what its server said
 //! beforehand, and its thread leaves what they came to. A server that hears what it does not expect ends. Whole runs
 //! end well, or with what went wrong. Of `merge_history`, what a client and a server that are stepped by hand keep

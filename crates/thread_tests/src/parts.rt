@@ -13,7 +13,7 @@ use std::alloc::Global;
 use std::marker::Brand;
 use std::sync::Wait;
 use std::test::Fail;
-use thread_client::ActorFault;
+use thread_actors::ActorFault;
 
 /// Why an actor failed, if it did, and whether it met that itself.
 pub type Fault = (Option<ActorFault>, bool);

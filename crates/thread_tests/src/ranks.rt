@@ -14,7 +14,7 @@ use adlb_unit::{Config, NoMemory, Rank, Trouble};
 use std::alloc::Global;
 use std::sync::Wait;
 use std::test::Fail;
-use thread_client::{ActorFault, RankEnd, RankJob};
+use thread_actors::{ActorFault, RankEnd, RankJob};
 
 /// What the servers hear before the rank's last letter to each, this letter, and how many entries its journal has.
 pub type Left<'a> = (&'a [(u32, Heard)], Heard, u64);

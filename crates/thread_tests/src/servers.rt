@@ -13,8 +13,7 @@ use std::alloc::Global;
 use std::slice;
 use std::sync::Wait;
 use std::test::Fail;
-use thread_client::ActorFault;
-use thread_server::{ServerEnd, ServerJob};
+use thread_actors::{ActorFault, ServerEnd, ServerJob};
 
 /// What a server heard, and others heard of it, each by number. How many entries its journal has then.
 pub struct Scene<'a> {

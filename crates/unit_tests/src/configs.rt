@@ -1,8 +1,8 @@
-//! Actors in order, and configurations.
+//! Actors, and configurations.
 
 use adlb_unit::{Actor, Config, ConfigFault, Rank, Server};
 
-const RISING: &[Actor] = &[
+const ACTORS: &[Actor] = &[
     Actor::Rank(Rank(0)),
     Actor::Rank(Rank(31)),
     Actor::Server(Server(0)),
@@ -10,11 +10,11 @@ const RISING: &[Actor] = &[
 ];
 
 #[test]
-fn ranks_come_before_servers(rt: HostRuntime) {
-    for place in 1..RISING.len() {
-        assert!(rt; RISING[place - 1] < RISING[place]);
+fn ranks_and_servers_differ(rt: HostRuntime) {
+    for place in 1..ACTORS.len() {
+        assert!(rt; ACTORS[place - 1] != ACTORS[place]);
     }
-    assert_eq!(rt; Actor::Server(Server(7)), RISING[3]);
+    assert_eq!(rt; Actor::Server(Server(7)), ACTORS[3]);
 }
 
 const CONFIGS: &[(u32, u32, u64, Option<ConfigFault>)] = &[

@@ -8,7 +8,7 @@ use crate::ranks::{Row, is_left};
 use crate::says::{LATE, Line, Says, TOO_LONG};
 use adlb_unit::Trouble;
 use std::test::Fail;
-use thread_client::ActorFault;
+use thread_actors::ActorFault;
 
 const FAILED: Fault = (Some(ActorFault::Memory), true);
 

@@ -12,7 +12,7 @@ use adlb_unit::{STAMP_LIMIT, Trouble};
 use std::alloc::Global;
 use std::sync::Wait;
 use std::test::Fail;
-use thread_client::ActorFault;
+use thread_actors::ActorFault;
 
 // A letter of the actor of this number was not expected.
 const STRANGE: Fault = (Some(ActorFault::Unexpected { from: 2 }), false);

@@ -1,6 +1,6 @@
 use Rattle.std.proofs.Common.{refl}
-use Rattle.batch_store.proofs.Charged.{changed_charged}
-use Rattle.batch_store.specs.Store.{closed}
+use Rattle.server_components.proofs.Charged.{changed_charged}
+use Rattle.server_components.specs.Store.{closed}
 use Rattle.actor_tests.proofs.parts.close.Goals as goal
 
 pub returns-then-close : goal.returns-then-close

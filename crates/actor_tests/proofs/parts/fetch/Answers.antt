@@ -1,7 +1,7 @@
 use Rattle.std.proofs.Common.{refl}
-use Rattle.batch_store.proofs.Charged.{changed_charged}
-use Rattle.batch_store.proofs.Small.{either_way_of_two}
-use Rattle.batch_store.specs.Store.{fetched}
+use Rattle.server_components.proofs.Charged.{changed_charged}
+use Rattle.server_components.proofs.Small.{either_way_of_two}
+use Rattle.server_components.specs.Store.{fetched}
 use Rattle.actor_tests.proofs.parts.fetch.Goals as goal
 
 pub returns : goal.returns

@@ -1,5 +1,5 @@
 use Rattle.std.proofs.Common.{◌≤◌}
-use Rattle.batch_store.specs.Store.{part_in, size_of}
+use Rattle.server_components.specs.Store.{part_in, size_of}
 use Rattle.actor_tests.proofs.parts.go_through.Given as goal
 
 abbrev pub invariant-loop-row : goal.invariant-loop-row

@@ -1,4 +1,4 @@
-use Rattle.batch_store.proofs.Charged.{fresh_charged}
+use Rattle.server_components.proofs.Charged.{fresh_charged}
 use Rattle.actor_tests.proofs.parts.keep.Goals as goal
 
 pub returns-in-Ok : goal.returns-in-Ok

@@ -1,5 +1,5 @@
 use Rattle.std.proofs.Common.{◌∙◌, Some, ap, sym}
-use Rattle.reserve_path.proofs.Conditions.{pending}
+use Rattle.server_components.proofs.Conditions.{pending}
 use Rattle.actor_tests.proofs.waits.is_pending.Goals as goal
 
 pub returns-in-Some-default-Some : goal.returns-in-Some-default-Some

@@ -1,5 +1,5 @@
 use Rattle.std.proofs.Common.{sym, ◌∙◌}
-use Rattle.reserve_path.proofs.Conditions.{not_parked}
+use Rattle.server_components.proofs.Conditions.{not_parked}
 use Rattle.actor_tests.proofs.waits.reserve.Goals as goal
 
 pub reserve-requires-clause-new : goal.reserve-requires-clause-new

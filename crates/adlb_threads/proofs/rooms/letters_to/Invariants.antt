@@ -1,6 +1,6 @@
 use Rattle.std.proofs.Common.{◌≡◌, ◌≤◌, ◌*◌, ◌-◌, ◌==◌, if◌then◌else◌}
 use Rattle.adlb_unit.specs.Targets.{home_of}
-use Rattle.thread_server.specs.World.{rank_named}
+use Rattle.thread_actors.specs.World.{rank_named}
 use Rattle.core_progress_law.specs.Room.{sum_to}
 use Rattle.adlb_threads.proofs.rooms.letters_to.Given as goal
 

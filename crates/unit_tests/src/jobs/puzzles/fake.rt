@@ -23,7 +23,6 @@ use std::collections::VecDeque;
 
 /// It rejects no put and no batch, or each, or each second or third one. It tells an end when no unit is left, or after
 /// a number of calls.
-#[derive(Drop)]
 pub struct Fake {
     alloc: Global,
     said: Vec<Said>,
@@ -34,6 +33,22 @@ pub struct Fake {
     stops: usize,
     going: bool,
     ghost within: { length said.items < 2 ^ 48 },
+}
+
+// By hand, so that a test lets it go by one call.
+impl Drop for Fake {
+    fn drop(self) {
+        let Fake {
+            alloc,
+            said,
+            units,
+            common,
+            trouble,
+            every,
+            stops,
+            going,
+        } = self;
+    }
 }
 
 impl Fake {

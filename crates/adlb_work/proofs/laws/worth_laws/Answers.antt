@@ -1,5 +1,0 @@
-use Rattle.adlb_work.proofs.Whole.{joined}
-use Rattle.adlb_work.proofs.laws.worth_laws.Goals as goal
-
-pub returns : goal.returns
-returns c = record { whole = joined c.balance_laws.ensures.balanced }

@@ -1,9 +1,0 @@
-use Rattle.std.proofs.Common.{sym, subst}
-use Rattle.batch_store.proofs.Small.{small_turned}
-use Rattle.batch_store.specs.inside.{IsSmall}
-use Rattle.batch_store.specs.Store.{fetched}
-use Rattle.batch_store.proofs.stores.BatchStore.fetch.Goals as goal
-
-pub invariant_of-self : goal.invariant_of-self
-invariant_of-self c = subst IsSmall (sym c.fetch.ensures) (small_turned fetched
-    (λ p low. low) c.self.inside.parts c.args.batch c.self.invariant)

@@ -1,3 +1,0 @@
-pub mod inside
-pub mod Pushes
-pub mod Put

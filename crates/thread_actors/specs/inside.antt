@@ -1,0 +1,4 @@
+-- What private contracts cite.
+pub mod Rooms
+pub mod Serving
+pub mod Wires
